@@ -1,0 +1,13 @@
+-- What contracts see of a list of items.
+use Rattle.std.specs.Prelude.{ℕ, List, refl}
+use Rattle.std.specs.Coded.{Coded, code_by, coded×, coded_ℕ, coded_list}
+
+-- the items, and how many more it takes without asking for memory
+pub record Kept (T : Type 0) : Type 0 where
+  pub items : List T
+  pub spare : ℕ
+
+-- it is stored as the pair of its fields
+abbrev pub kept_code : {T : Type 0} → Coded T → Coded (Kept T)
+kept_code {T} code =
+    code_by (List T × ℕ) (coded× (coded_list code) coded_ℕ) (λ k. (k.items, k.spare)) (λ p. record { items = p.0; spare = p.1 }) (λ _. refl)

@@ -1,0 +1,30 @@
+ghost use Rattle.std.specs.Prelude.{◌≡◌, ◌++◌, List, ℕ, OnOk, OnErr};
+
+use std::alloc::AllocError;
+
+/// Where bytes are written to, and kept.
+pub trait Write {
+    /// The bytes that were written, in order.
+    ghost contents: { Self → List ℕ };
+
+    /// Appends all of `buf`. A refusal changes nothing.
+    fn write(&mut self, buf: &[u8]) -> Result<(), AllocError>
+        ensures appended { OnOk result (contents self.new ≡ contents self.old ++ buf.now) }
+        ensures refused { OnErr result (contents self.new ≡ contents self.old) };
+
+    /// Asks for room for `additional` bytes more. What was written stays, whatever the answer.
+    fn reserve(&mut self, additional: usize) -> Result<(), AllocError>
+        ensures { contents self.new ≡ contents self.old };
+}
+
+impl Write for Vec<u8> {
+    ghost contents = { λ v. v.items };
+
+    fn write(&mut self, buf: &[u8]) -> Result<(), AllocError> {
+        self.extend_from_slice(buf)
+    }
+
+    fn reserve(&mut self, additional: usize) -> Result<(), AllocError> {
+        self.try_reserve(additional)
+    }
+}
