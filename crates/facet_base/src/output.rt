@@ -1,4 +1,4 @@
-ghost use Rattle.std.specs.Prelude.{◌≡◌, ◌++◌, List, ℕ, OnOk, OnErr};
+ghost use Rattle.std.specs.Prelude.{◌≡◌, ◌++◌, ◌+◌, ◌<◌, ◌≤◌, List, ℕ, OnOk, OnErr, length, vec_capacity};
 
 use std::alloc::AllocError;
 
@@ -24,7 +24,12 @@ impl Write for Vec<u8> {
         self.extend_from_slice(buf)
     }
 
-    fn reserve(&mut self, additional: usize) -> Result<(), AllocError> {
+    // The capacity then holds the bytes more, and a refusal comes only where it didn't.
+    fn reserve(&mut self, additional: usize) -> Result<(), AllocError>
+        ensures contents { self.new.items ≡ self.old.items }
+        ensures room { OnOk result (length self.new.items + additional ≤ vec_capacity self.new) }
+        ensures refused { OnErr result (vec_capacity self.old < length self.old.items + additional) }
+    {
         self.try_reserve(additional)
     }
 }

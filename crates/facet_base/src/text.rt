@@ -1,5 +1,6 @@
-ghost use Rattle.std.specs.Prelude.{◌≡◌, IfOk};
+ghost use Rattle.std.specs.Prelude.{◌≡◌, bytes_eq, IfOk};
 ghost use Rattle.std.specs.Str.{IsUtf8};
+ghost use Rattle.facet_base.specs.Tail.{tail_of};
 
 use std::alloc::{AllocError, Global};
 use std::marker::Model;
@@ -8,6 +9,8 @@ use std::marker::Model;
 #[derive(Drop)]
 pub struct Text {
     text: String,
+    // By this number most unequal texts are told apart without a look at their bytes.
+    tail: u64,
 }
 
 impl Model for Text {
@@ -19,6 +22,11 @@ impl Model for Text {
     ghost coded = { coded_list coded_ℕ };
 
     ghost view = { λ t. string_bytes t.text };
+
+    ghost use Rattle.std.specs.Prelude.{◌≡◌};
+    ghost use Rattle.facet_base.specs.Tail.{tail_of};
+
+    ghost invariant = { λ t. t.tail ≡ tail_of (string_bytes t.text) };
 }
 
 impl Text {
@@ -28,6 +36,7 @@ impl Text {
     {
         Ok(Text {
             text: String::from_str(alloc, s)?,
+            tail: read_tail(s.as_bytes()),
         })
     }
 
@@ -36,8 +45,9 @@ impl Text {
         requires { IsUtf8 bytes.items }
         ensures { result ≡ bytes.items }
     {
+        let tail = read_tail(&bytes);
         let text = unsafe { String::from_utf8_unchecked(bytes) };
-        Text { text }
+        Text { text, tail }
     }
 
     /// The bytes as a text.
@@ -47,10 +57,40 @@ impl Text {
         self.text.as_str()
     }
 
+    /// The bytes, in the memory of the text. It takes no memory.
+    pub fn into_bytes(self) -> Vec<u8>
+        ensures { result.items ≡ self }
+    {
+        self.text.into_bytes()
+    }
+
+    /// Whether it has the same bytes as another text. Texts of other lengths, and most of the same length, are
+    /// told apart in constant time.
+    pub fn is_same(&self, other: &Text) -> bool
+        ensures { result ≡ bytes_eq self.now other.now }
+    {
+        if self.text.len() != other.text.len() || self.tail != other.tail {
+            return false;
+        }
+        self.text.as_str() == other.text.as_str()
+    }
+
     /// A text of the same bytes.
     pub fn try_clone(&self, alloc: Global) -> Result<Text, AllocError>
         ensures { IfOk result (λ text. text ≡ self.now) }
     {
         Text::new(alloc, self.as_str())
     }
+}
+
+// The last eight bytes as one number, all of them where there are fewer.
+fn read_tail(bytes: &[u8]) -> u64
+    ensures { result ≡ tail_of bytes.now }
+{
+    let start = bytes.len().saturating_sub(8);
+    let mut tail: u64 = 0;
+    for byte in &bytes[start..] {
+        tail = tail.wrapping_mul(256).wrapping_add(u64::from(*byte));
+    }
+    tail
 }
