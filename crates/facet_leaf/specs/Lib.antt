@@ -1,0 +1,3 @@
+pub mod LeafModel
+pub mod Scalar
+pub mod ScalarLaws
