@@ -1,0 +1,4 @@
+pub mod Prelude
+pub mod Registry
+pub mod ValueKind
+pub mod WellFormed
