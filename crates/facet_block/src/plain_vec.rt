@@ -1,0 +1,73 @@
+ghost use Rattle.std.specs.Prelude.{◌≡◌, ◌<◌, length, replicate, slice_get, slice_set, Some, None, IfOk};
+ghost use Rattle.std.specs.Option.{option_copied, option_copied_mut};
+ghost use Rattle.std.specs.Borrow.{sem};
+ghost use Rattle.facet_block.specs.PlainLends.{LendsEntry};
+
+use std::alloc::{AllocError, Global};
+use std::marker::Model;
+use std::mem;
+
+/// A `Vec` that contracts see as the plain list of its items.
+#[derive(Drop)]
+pub struct PlainVec<T> {
+    items: Vec<T>,
+}
+
+impl<T> Model for PlainVec<T> {
+    ghost use Rattle.std.specs.Prelude.{List};
+    ghost use Rattle.std.specs.Coded.{coded_list};
+
+    ghost Value = { List T };
+
+    ghost coded = { coded_list T.code };
+
+    ghost view = { λ it. it.items.items };
+}
+
+impl<T: Drop> PlainVec<Option<T>> {
+    /// A list of so many times `None`.
+    pub fn nones(alloc: Global, count: usize) -> Result<PlainVec<Option<T>>, AllocError>
+        ensures { IfOk result (λ v. v ≡ replicate count None) }
+    {
+        let mut items = Vec::with_capacity(alloc, count)?;
+        for i in 0..count {
+            items.push(None)?;
+        }
+        Ok(PlainVec { items })
+    }
+}
+
+impl<T> PlainVec<T> {
+    /// The number of items.
+    pub fn len(&self) -> usize
+        ensures { result ≡ length self.now }
+    {
+        self.items.len()
+    }
+
+    /// The item at place `i`, and none exactly at or above the length.
+    pub fn get(&self, i: usize) -> Option<&T>
+        ensures { option_copied result ≡ slice_get self.now i }
+    {
+        self.items.get(i)
+    }
+
+    /// Lends the item at place `i`, and none exactly at or above the length.
+    pub fn get_mut(&mut self, i: usize) -> Option<&mut T>
+        ensures* lends { sem 𝓛 (LendsEntry T.row self.entry i result) }
+        ensures value { option_copied_mut result ≡ slice_get self.old i }
+    {
+        self.items.get_mut(i)
+    }
+}
+
+impl<T: Drop> PlainVec<T> {
+    /// Puts `item` at place `i`, and gives back what was there.
+    pub fn replace(&mut self, i: usize, item: T) -> T
+        requires { i < length self.old }
+        ensures gives { slice_get self.old i ≡ Some result }
+        ensures items { self.new ≡ slice_set self.old i item }
+    {
+        mem::replace(&mut self.items[i], item)
+    }
+}
