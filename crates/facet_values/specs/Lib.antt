@@ -1,0 +1,4 @@
+pub mod Place
+pub mod Reading
+pub mod Seen
+pub mod Value
