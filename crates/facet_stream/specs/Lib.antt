@@ -1,0 +1,3 @@
+pub mod Causes
+pub mod List
+pub mod Stream

@@ -1,0 +1,6 @@
+-- What a sink takes of a piece that is handed to it.
+use Rattle.std.specs.Prelude.{ℕ, ◌<◌, List, length, Result, IfOk}
+
+-- of a piece that isn't empty at least one byte is taken
+abbrev pub TakesSome : {E : Type 0} → Result ℕ E → List ℕ → Type 0
+TakesSome result piece = 0 < length piece → IfOk result (λ n. 0 < n)
