@@ -1,0 +1,41 @@
+-- A walk that ends the values of cells, one after another.
+use Rattle.std.proofs.Common.{◌≡◌, ℕ, zero, suc, ◌+◌, ◌<◌, List, [], ◌∷◌, ◌++◌, length, drop, slice_get, slice_set, None, Some, All, refl, sym, ap, ◌∙◌, subst, arith, append_assoc}
+use Rattle.std.proofs.lemmas.List.{drop-drop, drop-set-lt, drop_more}
+use Rattle.std.proofs.lemmas.Option.{slice_get_within, get_or_from_slice_get}
+use Rattle.facet_shapes.specs.Registry.{Registry}
+use Rattle.facet_session.specs.declared.session.Cell.{Cell}
+use Rattle.facet_session.specs.Stored.{stored_in, stored_in_all}
+
+slice_get-drop : {A : Type 0} (xs : List A) (i : ℕ) → slice_get xs i ≡ slice_get (drop i xs) 0
+slice_get-drop [] zero = refl
+slice_get-drop [] (suc i) = refl
+slice_get-drop (x ∷ xs) zero = refl
+slice_get-drop (x ∷ xs) (suc i) = slice_get-drop xs i
+
+-- two lists that are one from place i on have the same there
+pub same_at : {A : Type 0} (xs ys : List A) (i : ℕ) (x : A) → drop i xs ≡ drop i ys → Some x ≡ slice_get xs i → slice_get ys i ≡ Some x
+same_at xs ys i x rest here = slice_get-drop ys i ∙ ap (λ zs. slice_get zs 0) (sym rest) ∙ sym (slice_get-drop xs i) ∙ sym here
+
+-- what holds of each element holds of the one at a place
+pub All-at : {A : Type 0} (P : A → Type 0) (xs : List A) (i : ℕ) (x : A) → All P xs → slice_get xs i ≡ Some x → P x
+All-at P xs i x all here = subst P (get_or_from_slice_get xs i x x here) (all i x (slice_get_within xs i x here))
+
+-- the lists are still one behind that place, whatever is put there
+pub same_behind : {A : Type 0} (xs ys : List A) (i : ℕ) (x : A) → drop i xs ≡ drop i ys → drop (i + 1) (slice_set xs i x) ≡ drop (i + 1) ys
+same_behind xs ys i x rest =
+    drop-set-lt (i + 1) xs i x (omega arith) ∙ sym (drop-drop 1 i xs) ∙ ap (drop 1) rest ∙ drop-drop 1 i ys
+
+-- the leaves of the cell at a place are those that come next
+pub next_stored : {L : Type 0} (registry : Registry) (cells : List (Cell L)) (i : ℕ) (cell : Cell L) (before now all : List L) → slice_get cells i ≡ Some cell
+    → before ++ stored_in_all registry (drop i cells) ≡ all → now ≡ before ++ stored_in registry cell → now ++ stored_in_all registry (drop (i + 1) cells) ≡ all
+next_stored registry cells i cell before now all here rest grown =
+    let step = drop_more cells i cell (slice_get_within cells i cell here) ∙ ap (λ c. c ∷ drop (i + 1) cells) (get_or_from_slice_get cells i cell cell here) in
+    ap (λ xs. xs ++ stored_in_all registry (drop (i + 1) cells)) grown
+    ∙ append_assoc before (stored_in registry cell) (stored_in_all registry (drop (i + 1) cells))
+    ∙ ap (λ cs. before ++ stored_in_all registry cs) (sym step)
+    ∙ rest
+
+pub some_there : {A : Type 0} (xs : List A) (i : ℕ) → i < length xs → None ≡ slice_get xs i → ⊥
+some_there [] i below none = omega arith
+some_there (x ∷ xs) zero below none = cc
+some_there (x ∷ xs) (suc i) below none = some_there xs i (omega arith) none

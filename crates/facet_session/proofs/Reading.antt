@@ -1,0 +1,133 @@
+-- What a block with a leaf at its start reads as, and what a cell stores that reads as a value.
+use Rattle.std.proofs.Common.{◌≡◌, ℕ, zero, suc, ◌+◌, ◌<◌, ◌≤◌, ◌⊎◌, List, [], ◌∷◌, length, replicate, slice_get, unwrap_or, Option, None, Some, All, refl, sym, ap, ◌∙◌, subst, arith, zero-add}
+use Rattle.std.proofs.Math.ListN.{length-set, length-replicate}
+use Rattle.std.proofs.lemmas.List.Elements.{All-head}
+use Rattle.facet_base.specs.declared.scalar_type.ScalarType.{ScalarType}
+use Rattle.facet_leaf.specs.LeafModel.{LeafModel}
+use Rattle.facet_block.specs.declared.block.Item.{Item, Leaf, Tag, Sequence}
+use Rattle.facet_block.specs.declared.block.Block.{Block}
+use Rattle.facet_block.specs.Block.{items_of, item_at, size_of, leaf_of, empty_block, with_item, HoldsLeaf}
+use Rattle.facet_block.specs.Span.{IsBeside}
+use Rattle.facet_shapes.specs.declared.shape.Shape.{Shape}
+use Rattle.facet_shapes.specs.Registry.{Registry, kind_of_found, kind_at, size_at}
+use Rattle.facet_shapes.specs.declared.value_kind.ValueKind.{ValueKind}
+use Rattle.facet_shapes.specs.declared.value_kind.ValueKind.TheVariants as kind
+use Rattle.facet_values.specs.declared.form.Form.{Form}
+use Rattle.facet_values.specs.Place.{Place}
+use Rattle.facet_values.specs.Seen.{no_value, a_leaf, a_node, seen_leaf, seen_kind, seen}
+use Rattle.facet_values.specs.Reading.{own_span, spans_of_kind, IsAlone, IsWhole, Reads, ReadAll}
+use Rattle.facet_values.specs.Value.{Value, Values, leaf, node, none, more, leaves, leaves_of_parts}
+use Rattle.facet_session.specs.declared.session.Cell.{Cell}
+use Rattle.facet_session.specs.Stored.{stored_by, IsFilled}
+
+-- the block of a size with a leaf at its start
+abbrev pub leaf_block : {L : Type 0} → ℕ → L → Block L
+leaf_block size x = with_item (empty_block size) 0 (Some (Leaf x))
+
+-- the start of a block, read by a shape
+abbrev start_of : {L : Type 0} → ℕ → Block L → Place L
+start_of s block = record { shape = s; block = block; offset = 0 }
+
+same_in : {A : Type 0} (size i : ℕ) (x : A) → unwrap_or (slice_get (replicate size x) i) x ≡ x
+same_in zero i x = refl
+same_in (suc size) zero x = refl
+same_in (suc size) (suc i) x = same_in size i x
+
+module _ {L : Type 0} (x : L) where
+  first_item : (size : ℕ) → 0 < size → item_at (leaf_block size x) 0 ≡ Some (Leaf x)
+  first_item zero some = absurd (omega arith)
+  first_item (suc size) some = refl
+
+  other_items : (size i : ℕ) → 0 < i → item_at (leaf_block size x) i ≡ None
+  other_items size zero some = absurd (omega arith)
+  other_items zero (suc i) some = refl
+  other_items (suc size) (suc i) some = same_in size i None
+
+  size_kept : (size : ℕ) → size_of (leaf_block size x) ≡ size
+  size_kept size = length-set (replicate size None) 0 (Some (Leaf x)) ∙ length-replicate size None
+
+behind_first : (i : ℕ) → (i < 0) ⊎ (0 + 1 ≤ i) → 0 < i
+behind_first i beside = omega arith
+
+module _ {L : Type 0} (m : LeafModel L) (registry : Registry) (s : ℕ) (k : ScalarType) (x : L) (of : kind_at registry s ≡ kind.Leaf k) (same : m.kind x ≡ k) (some : 0 < size_at registry s) where
+  alone : IsAlone (size_at registry s) (start_of s (leaf_block (size_at registry s) x)) (spans_of_kind (kind_at registry s))
+  alone i below beside =
+      let first = All-head (IsBeside i) own_span [] (subst (λ f. All (IsBeside i) (spans_of_kind f)) of beside) in
+      rw zero-add (other_items x (size_at registry s) i (behind_first i first))
+
+  whole : IsWhole m registry (start_of s (leaf_block (size_at registry s) x))
+  whole = record {
+    inside = omega (arith, size_kept x (size_at registry s));
+    alone = alone;
+    item = rw (of, first_item x (size_at registry s) some) same;
+  }
+
+  -- it reads as the leaf
+  pub reads_leaf : Reads m registry (start_of s (leaf_block (size_at registry s) x)) (leaf x)
+  unfolding seen
+  reads_leaf = (whole, rw (of, first_item x (size_at registry s) some) refl)
+
+  pub leaf_block_size : size_of (leaf_block (size_at registry s) x) ≡ size_at registry s
+  leaf_block_size = size_kept x (size_at registry s)
+
+module _ {L : Type 0} where
+  of_leaf : (found : Option L) (x : L) → seen_leaf found ≡ a_leaf x → found ≡ Some x
+  of_leaf None x e = absurd (cc)
+  of_leaf (Some y) x e = let same : y ≡ x = cc in ap Some same
+
+  not_node : (found : Option L) (form : Form) (parts : List (Place L)) → seen_leaf found ≡ a_node form parts → ⊥
+  not_node None form parts e = cc
+  not_node (Some y) form parts e = cc
+
+  leaf_stored : (of : ValueKind) (found : Option (Item L)) (x : L) → seen_kind of found ≡ a_leaf x → stored_by of (leaf_of found) ≡ x ∷ []
+  leaf_stored kind.Unit found x e = absurd (cc)
+  leaf_stored (kind.Leaf k) found x e = ap (stored_by (kind.Leaf k)) (of_leaf (leaf_of found) x e)
+  leaf_stored _ found x e = absurd (cc)
+
+  node_stored : (of : ValueKind) (found : Option (Item L)) (form : Form) (parts : List (Place L)) → seen_kind of found ≡ a_node form parts → (stored_by of (leaf_of found) ≡ []) × (parts ≡ [])
+  node_stored kind.Unit found form parts e = (refl, cc)
+  node_stored (kind.Leaf k) found form parts e = absurd (not_node (leaf_of found) form parts e)
+  node_stored _ found form parts e = absurd (cc)
+
+  leaf_found : (of : ValueKind) (k : ScalarType) (found : Option (Item L)) → of ≡ kind.Leaf k → (seen_kind of found ≡ no_value → ⊥) → leaf_of found ≡ None → ⊥
+  leaf_found of k found same some gone = some (rw (same, gone) refl)
+
+  holds_leaf : (at : Option (Option (Item L))) → (leaf_of (unwrap_or at None) ≡ None → ⊥) → HoldsLeaf at
+  holds_leaf None some = absurd (some refl)
+  holds_leaf (Some None) some = absurd (some refl)
+  holds_leaf (Some (Some (Leaf y))) some = tt
+  holds_leaf (Some (Some (Tag n))) some = absurd (some refl)
+  holds_leaf (Some (Some (Sequence q))) some = absurd (some refl)
+
+  known_shape : (shapes : List Shape) (s : ℕ) (found : Option (Item L)) → (seen_kind (kind_of_found (slice_get shapes s)) found ≡ no_value → ⊥) → s < length shapes
+  known_shape [] s found some = absurd (some refl)
+  known_shape (shape ∷ shapes) zero found some = omega arith
+  known_shape (shape ∷ shapes) (suc s) found some = omega (arith, known_shape shapes s found some)
+
+  module _ (m : LeafModel L) (registry : Registry) where
+    no_parts : (parts : List (Place L)) (vs : Values L) → parts ≡ [] → ReadAll m registry parts vs → leaves_of_parts vs ≡ []
+    no_parts [] none e reads = refl
+    no_parts [] (more v vs) e reads = absurd reads
+    no_parts (p ∷ ps) vs e reads = absurd (cc)
+
+    -- a cell stores the leaves of the value that it reads as
+    pub stored-leaves : (s : ℕ) (block : Block L) (v : Value L) → Reads m registry (start_of s block) v → stored_by (kind_at registry s) (leaf_of (item_at block 0)) ≡ leaves v
+    unfolding seen
+    stored-leaves s block (leaf x) reads = leaf_stored (kind_at registry s) (item_at block 0) x reads.1
+    stored-leaves s block (node form vs) reads =
+        let stored = node_stored (kind_at registry s) (item_at block 0) form reads.0 reads.2 in
+        stored.0 ∙ sym (no_parts reads.0 vs stored.1 reads.3)
+
+    seen_some : (s : ℕ) (block : Block L) (v : Value L) → Reads m registry (start_of s block) v → seen_kind (kind_at registry s) (item_at block 0) ≡ no_value → ⊥
+    unfolding seen
+    seen_some s block (leaf x) reads e = let f = reads.1 in cc
+    seen_some s block (node form vs) reads e = let f = reads.2 in cc
+
+    -- a cell that reads as a value is filled
+    pub filled_by : (cell : Cell L) (v : Value L) → Reads m registry (start_of cell.shape.0 cell.block) v → IsFilled registry cell
+    filled_by cell v reads =
+        let some = seen_some cell.shape.0 cell.block v reads in
+        record {
+          known = known_shape registry.shapes cell.shape.0 (item_at cell.block 0) some;
+          filled = λ k of. holds_leaf (slice_get (items_of cell.block) 0) (leaf_found (kind_at registry cell.shape.0) k (item_at cell.block 0) of some);
+        }

@@ -1,0 +1,30 @@
+use Rattle.std.proofs.Common.{◌<◌, ◌∙◌, length, arith, length-set}
+use Rattle.facet_session.specs.Stored.{IsFilled}
+use Rattle.facet_session.proofs.Dropping.{same_at, All-at, same_behind, next_stored, some_there}
+use Rattle.facet_session.proofs.cells.drop_values.Goals as goal
+use Rattle.facet_session.proofs.cells.drop_values.Goals.{in-Some, in_default}
+
+pub drop_value-requires-clause-filled : goal.drop_value-requires-clause-filled
+drop_value-requires-clause-filled g c =
+    let cells = c.args.cells.now.items in
+    let here = same_at c.loop-i.cells.items cells c.loop-i.i c.in-Some.cell.now c.loop-i.invariant.rest c.in-Some.ensures.value in
+    All-at (IsFilled c.args.shapes.now) cells c.loop-i.i c.in-Some.cell.now c.requires.filled here
+
+pub loop-i-preserved : goal.loop-i-preserved
+loop-i-preserved g c =
+    let cells = c.args.cells.now.items in
+    let i = c.loop-i.i in
+    let inv = c.loop-i.invariant in
+    elim c.match-get_mut.branch [
+      | in-Some w ↦
+          let here = same_at c.loop-i.cells.items cells i w.in-Some.cell.now inv.rest w.in-Some.ensures.value in
+          record {
+            rest = rw w.cells-is (same_behind c.loop-i.cells.items cells i w.drop_value.new.cell inv.rest);
+            count = rw w.cells-is (length-set c.loop-i.cells.items i w.drop_value.new.cell ∙ inv.count);
+            leaves = rw w.log-is (next_stored c.args.shapes.now cells i w.in-Some.cell.now _ _ _ here inv.leaves w.drop_value.ensures.leaves);
+            room = rw w.log-is (omega (arith, inv.room, w.drop_value.ensures.spare));
+          }
+      | in_default w ↦
+          let below : i < length c.loop-i.cells.items = omega (arith, inv.count, c.loop-i-test.true, c.len-i-end.ensures) in
+          absurd (some_there c.loop-i.cells.items i below w.in_default.ensures.value)
+    ]

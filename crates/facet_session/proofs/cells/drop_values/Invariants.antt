@@ -1,0 +1,12 @@
+use Rattle.std.proofs.Common.{◌≡◌, ◌+◌, ◌≤◌, ◌++◌, length, drop}
+use Rattle.facet_session.specs.Stored.{stored_in_all}
+use Rattle.facet_session.proofs.cells.drop_values.Given as goal
+
+abbrev pub invariant-loop-i : goal.invariant-loop-i
+invariant-loop-i g l =
+    record {
+      rest : drop l.i l.cells.items ≡ drop l.i l.fn.cells.items;
+      count : length l.cells.items ≡ length l.fn.cells.items;
+      leaves : l.log.leaves ++ stored_in_all l.shapes (drop l.i l.fn.cells.items) ≡ l.fn.log.leaves ++ stored_in_all l.shapes l.fn.cells.items;
+      room : length l.fn.cells.items ≤ l.log.spare + l.i;
+    }

@@ -1,0 +1,5 @@
+use Rattle.facet_session.proofs.Conserved.{conserved}
+use Rattle.facet_session.proofs.laws.balance.Goals as goal
+
+pub returns : goal.returns
+returns g c = conserved g.L.Leaf.model

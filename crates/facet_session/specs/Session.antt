@@ -1,0 +1,52 @@
+-- A session against the interpreter's state.
+use Rattle.std.specs.Prelude.{◌≡◌, List, [], ◌∷◌, length}
+use Rattle.facet_block.specs.Block.{size_of}
+use Rattle.facet_leaf.specs.LeafModel.{LeafModel}
+use Rattle.facet_shapes.specs.Prelude.{prelude}
+use Rattle.facet_shapes.specs.Registry.{Registry, size_at}
+use Rattle.facet_values.specs.Reading.{Reads}
+use Rattle.facet_session.specs.declared.session.Session.{Session}
+use Rattle.facet_session.specs.declared.session.Cell.{Cell}
+use Rattle.facet_session.specs.declared.session.Answer.{Answer}
+use Rattle.facet_session.specs.Interpreter.{Entry, State, Turn, text_of}
+
+module _ {L : Type 0} (m : LeafModel L) where
+  -- a cell has the name and the shape of an entry, and its block, of the shape's size, reads from 0 as the entry's value
+  pub record ShowsEntry (registry : Registry) (cell : Cell L) (entry : Entry L) : Type 0 where
+    pub name : cell.name ≡ entry.name
+    pub shape : cell.shape.0 ≡ entry.shape
+    pub size : size_of cell.block ≡ size_at registry entry.shape
+    pub reads : Reads m registry (record { shape = entry.shape; block = cell.block; offset = 0 }) entry.value
+
+  -- the cells do so, each at its turn
+  abbrev pub ShowEntries : Registry → List (Cell L) → List (Entry L) → Type 0
+  ShowEntries registry [] [] = Unit {0}
+  ShowEntries registry (cell ∷ cells) (entry ∷ entries) = ShowsEntry registry cell entry × ShowEntries registry cells entries
+  ShowEntries registry _ _ = ⊥
+
+  -- a session has the registry of a state, and its cells are, in order, the state's entries
+  pub record Shows (session : Session L) (state : State L) : Type 0 where
+    pub registry : session.shapes ≡ state.registry
+    pub cells : ShowEntries state.registry session.cells.items state.entries
+
+  -- some state is shown
+  pub record IsReady (session : Session L) : Type 0 where
+    pub state : State L
+    pub shown : Shows session state
+
+  -- an answer has the text of a turn, and the numbers of its leaves
+  pub record Answers (answer : Answer) (turn : Turn L) : Type 0 where
+    pub text : answer.text ≡ text_of m turn
+    pub made : answer.made ≡ length turn.made
+    pub dropped : answer.dropped ≡ length turn.dropped
+
+-- the prelude, no cell and an empty log
+pub record IsNew {L : Type 0} (session : Session L) : Type 0 where
+  pub registry : session.shapes ≡ prelude
+  pub cells : session.cells.items ≡ []
+  pub log : session.log.leaves ≡ []
+
+-- registry and cells are as before
+pub record IsUnchanged {L : Type 0} (before now : Session L) : Type 0 where
+  pub registry : now.shapes ≡ before.shapes
+  pub cells : now.cells.items ≡ before.cells.items
