@@ -1,0 +1,4 @@
+mod Course
+mod Handed
+mod Lines
+mod Turns

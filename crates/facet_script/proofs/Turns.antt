@@ -1,0 +1,43 @@
+-- One more step of a run: what it adds to the answers, and the state that it leaves.
+use Rattle.std.proofs.Common.{◌≡◌, ℕ, ◌+◌, ◌-◌, ◌<◌, List, [], ◌∷◌, ◌++◌, length, take, drop, sym, ◌∙◌, ap, refl, arith}
+use Rattle.std.specs.List.{flat_map}
+use Rattle.std.proofs.lemmas.List.{length-drop, drop_more, take_more, append-nil, take-append-drop, take-take}
+use Rattle.std.proofs.lemmas.List.Concat.{flat_map-append}
+use Rattle.facet_leaf.specs.LeafModel.{LeafModel}
+use Rattle.facet_session.specs.Interpreter.{State, Turn, first_state}
+use Rattle.facet_session.specs.Script.{turns, state_after, answer_line, after, answers}
+use Rattle.facet_base.specs.Output.{IsPrefix}
+
+pub next_at : {A : Type 0} (xs : List A) (k : ℕ) (x : A) (ys : List A) → drop k xs ≡ x ∷ ys → (take (k + 1) xs ≡ take k xs ++ x ∷ []) × (drop (k + 1) xs ≡ ys)
+next_at xs k x ys e =
+    let within : k < length xs = omega (arith, length-drop k xs, ap length e) in
+    let more = sym (drop_more xs k x within) ∙ e in
+    let last = take_more xs k x within in
+    (cc, cc)
+
+state_after_more : {L : Type 0} (state : State L) (steps : List (Turn L)) (turn : Turn L) → state_after state (steps ++ turn ∷ []) ≡ turn.state
+state_after_more state [] turn = refl
+state_after_more state (step ∷ steps) turn = state_after_more step.state steps turn
+
+pub after_next : {L : Type 0} (m : LeafModel L) (script : List ℕ) (k : ℕ) (turn : Turn L) (rest : List (Turn L)) → drop k (turns m script) ≡ turn ∷ rest → after m script (k + 1) ≡ turn.state
+unfolding after
+after_next m script k turn rest e =
+    ap (state_after first_state) (next_at (turns m script) k turn rest e).0 ∙ state_after_more first_state (take k (turns m script)) turn
+
+pub answers_next : {L : Type 0} (m : LeafModel L) (script : List ℕ) (k : ℕ) (turn : Turn L) (rest : List (Turn L)) → drop k (turns m script) ≡ turn ∷ rest → answers m script (k + 1) ≡ answers m script k ++ answer_line m turn
+unfolding answers
+answers_next m script k turn rest e =
+    ap (flat_map (answer_line m)) (next_at (turns m script) k turn rest e).0
+    ∙ flat_map-append (answer_line m) (take k (turns m script)) (turn ∷ [])
+    ∙ ap (λ ys. flat_map (answer_line m) (take k (turns m script)) ++ ys) (append-nil (answer_line m turn))
+
+-- the answers begin with those before the last
+pub answers_before : {L : Type 0} (m : LeafModel L) (script : List ℕ) (k : ℕ) → IsPrefix (answers m script (k - 1)) (answers m script k)
+unfolding answers
+answers_before m script k =
+    let steps = turns m script in (
+      flat_map (answer_line m) (drop (k - 1) (take k steps)),
+      ap (flat_map (answer_line m)) (sym (take-append-drop (k - 1) (take k steps)))
+          ∙ flat_map-append (answer_line m) (take (k - 1) (take k steps)) (drop (k - 1) (take k steps))
+          ∙ ap (λ front. flat_map (answer_line m) front ++ flat_map (answer_line m) (drop (k - 1) (take k steps))) (take-take (k - 1) k steps (omega arith)),
+    )
