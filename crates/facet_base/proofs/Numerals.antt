@@ -1,12 +1,14 @@
 -- The number that `parse` reads is the one that the definition says.
-use Rattle.std.proofs.Common.{◌≡◌, ℕ, ◌^◌, ◌<◌, ◌&&◌, Bool, true, false, cond, List, [], ◌∷◌, length, drop, None, Some, Result, Ok, Err, refl, sym, ap, ◌∙◌, subst, rules, arith, nat_lt, nat_eq}
+use Rattle.std.proofs.Common.{◌≡◌, ℕ, ℤ, pos, neg_ℤ, ◌+◌, ◌^◌, ◌<◌, ◌≤◌, ◌&&◌, Bool, true, false, cond, List, [], ◌∷◌, length, drop, None, Some, option_map, Result, Ok, Err, refl, sym, ap, ◌∙◌, subst, rules, arith, nat_lt, nat_eq}
 use Rattle.std.proofs.lemmas.Bool.Decides.{nat_tests}
 use Rattle.std.specs.Result.{OkIff, result_ok}
 use Rattle.std.specs.Str.{all_ascii_digits}
-use Rattle.std.specs.Str.Parse.{ParsesUnsigned, IsNumeral, digits_value, without_leading_plus}
+use Rattle.std.specs.Str.Parse.{ParsesUnsigned, ParsesSigned, IsNumeral, digits_value, without_leading_plus}
 use Rattle.std.proofs.lemmas.Bool.{ltb-true}
-use Rattle.std.proofs.lemmas.Str.Parse.{IsNumeralModel, numerals_by_fold}
-use Rattle.facet_base.specs.Numeral.{number_after, number_below, without_plus, unsigned_below}
+use mir.Syntax.{Width}
+use mir.Val.{hbits}
+use Rattle.std.proofs.lemmas.Str.Parse.{IsNumeralModel, numerals_by_fold, parse_signed_minus, parse_signed_plain, parse_signed_plus}
+use Rattle.facet_base.specs.Numeral.{number_after, number_below, without_plus, unsigned_below, signed_in}
 
 pub decimal_digits : IsNumeralModel (λ ds. all_ascii_digits ds ≡ true) (number_after 0)
 decimal_digits = numerals_by_fold _ (search rules) number_after (search rules)
@@ -43,3 +45,32 @@ plus (b ∷ bytes) = behind_plus b bytes (nat_eq b 43)
 
 pub unsigned-parsed : {E : Type 0} (k : ℕ) (text : List ℕ) (r : Result ℕ E) → ParsesUnsigned k 10 text r → result_ok r ≡ unsigned_below (2 ^ k) text
 unsigned-parsed k text r h = below (2 ^ k) (without_plus text) r (subst (λ ds. OkIff r (IsNumeral 10 ds × (digits_value 10 ds < 2 ^ k)) (digits_value 10 ds)) (plus text) h)
+
+-- the answer is a number's, exactly where digits write one below the limit
+abbrev Reads : {T E : Type 0} → (ℕ → T) → ℕ → List ℕ → Result T E → Type 0
+Reads g limit ds r = OkIff r ((all_ascii_digits ds ≡ true) × (0 < length ds) × (number_after 0 ds < limit)) (g (number_after 0 ds))
+
+read : {T E : Type 0} (g : ℕ → T) (limit : ℕ) (ds : List ℕ) (r : Result T E) → Reads g limit ds r → result_ok r ≡ option_map g (number_below limit ds)
+read g limit ds (Ok x) h =
+    ap Some h.1
+    ∙ sym (ap (option_map g) (taken (nat_lt 0 (length ds)) (all_ascii_digits ds) (nat_lt (number_after 0 ds) limit) (number_after 0 ds) (grind (arith, nat_tests)) h.0.0 (grind (arith, nat_tests))))
+read g limit ds (Err e) h =
+    sym (ap (option_map g) (refused (nat_lt 0 (length ds)) (all_ascii_digits ds) (nat_lt (number_after 0 ds) limit) (number_after 0 ds)
+    (λ some all small. h (all, ltb-true 0 (length ds) some, ltb-true (number_after 0 ds) limit small))))
+
+at_most : {T E : Type 0} (P Q : Type 0) (n m : ℕ) (v : T) (r : Result T E) → OkIff r (P × Q × (n ≤ m)) v → OkIff r (P × Q × (n < m + 1)) v
+at_most P Q n m v (Ok x) h = ((h.0.0, h.0.1, omega (arith, h.0.2)), h.1)
+at_most P Q n m v (Err e) h = λ p. h (p.0, p.1, omega (arith, p.2))
+
+choice : {X Y : Type 0} (f : X → Y) (y : Y) (test : Bool) (a b : X) → (test ≡ true → y ≡ f a) → (test ≡ false → y ≡ f b) → y ≡ f (cond test a b)
+choice f y true a b h i = h refl
+choice f y false a b h i = i refl
+
+pub signed-parsed : {E : Type 0} (w : Width) (text : List ℕ) (r : Result ℤ E) → ParsesSigned w 10 text r → result_ok r ≡ signed_in (hbits w) text
+signed-parsed w [] r h = read pos (2 ^ hbits w) [] r (parse_signed_plain decimal_digits w [] r h (omega arith) (omega arith))
+signed-parsed w (b ∷ text) r h =
+    choice (λ z. z) (result_ok r) (nat_eq b 45) _ _
+    (λ minus. read (λ n. neg_ℤ (pos n)) (2 ^ hbits w + 1) text r (at_most _ _ _ _ _ r (parse_signed_minus decimal_digits w (b ∷ text) r h (grind (arith, nat_tests)))))
+    (λ no_minus. choice (λ ds. option_map pos (number_below (2 ^ hbits w) ds)) (result_ok r) (nat_eq b 43) text (b ∷ text)
+    (λ plus. read pos (2 ^ hbits w) text r (parse_signed_plus decimal_digits w (b ∷ text) r h (grind (arith, nat_tests))))
+    (λ no_plus. read pos (2 ^ hbits w) (b ∷ text) r (parse_signed_plain decimal_digits w (b ∷ text) r h (grind (arith, nat_tests)) (grind (arith, nat_tests)))))

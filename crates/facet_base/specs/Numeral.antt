@@ -1,5 +1,5 @@
 -- Whole numbers in decimal digits.
-use Rattle.std.specs.Prelude.{ℕ, ◌+◌, ◌-◌, ◌*◌, ◌&&◌, Bool, List, [], ◌∷◌, length, Option, None, Some, if◌then◌else◌, ◌==◌, nat_lt}
+use Rattle.std.specs.Prelude.{ℕ, ℤ, pos, neg_ℤ, ◌+◌, ◌-◌, ◌*◌, ◌^◌, ◌&&◌, Bool, List, [], ◌∷◌, length, Option, None, Some, option_map, if◌then◌else◌, ◌==◌, nat_lt}
 use Rattle.std.specs.Str.{all_ascii_digits}
 
 -- the number that digits write behind those of n
@@ -23,3 +23,8 @@ without_plus (b ∷ bytes) = if b == 43 then bytes else b ∷ bytes
 -- the unsigned number below the limit that a text is: perhaps a plus, and one digit or more
 abbrev pub unsigned_below : ℕ → List ℕ → Option ℕ
 unsigned_below limit text = number_below limit (without_plus text)
+
+-- the signed number with so many bits beside the sign that a text is: perhaps a sign, and one digit or more
+abbrev pub signed_in : ℕ → List ℕ → Option ℤ
+signed_in bits [] = None
+signed_in bits (b ∷ text) = if b == 45 then option_map (λ n. neg_ℤ (pos n)) (number_below (2 ^ bits + 1) text) else option_map pos (unsigned_below (2 ^ bits) (b ∷ text))

@@ -1,5 +1,7 @@
 ghost use Rattle.std.specs.Prelude.{◌≡◌, ◌++◌, ◌+◌, ◌<◌, ◌≤◌, List, ℕ, OnOk, OnErr, length, vec_capacity};
+ghost use Rattle.bytes.specs.Filled.{MakesSpare};
 
+use bytes::BytesMut;
 use std::alloc::AllocError;
 
 /// Where bytes are written to, and kept.
@@ -31,5 +33,21 @@ impl Write for Vec<u8> {
         ensures refused { OnErr result (vec_capacity self.old < length self.old.items + additional) }
     {
         self.try_reserve(additional)
+    }
+}
+
+impl Write for BytesMut {
+    ghost contents = { λ bytes. bytes.items };
+
+    fn write(&mut self, buf: &[u8]) -> Result<(), AllocError> {
+        BytesMut::extend_from_slice(self, buf)
+    }
+
+    // After Ok there is room for the bytes more.
+    fn reserve(&mut self, additional: usize) -> Result<(), AllocError>
+        ensures contents { self.new.items ≡ self.old.items }
+        ensures room { MakesSpare result self.old.spare self.new.spare additional }
+    {
+        BytesMut::reserve(self, additional)
     }
 }
