@@ -13,7 +13,9 @@ mod uninit;
 
 pub use block::{Block, Item, Seq};
 pub use drop_log::DropLog;
-pub use facet_leaf::{Leaf, Scalar};
+pub use facet_leaf::{
+    Conversion, Fnv128, HashProxy, HashSink, Leaf, LeafHook, NoRoom, Recorder, Scalar,
+};
 pub use laws::put_and_read;
 pub use pointer::{PtrConst, PtrMut};
 pub use uninit::{Never, PtrUninit};

@@ -1,32 +1,36 @@
--- What the methods of a leaf type answer, and what holds of these answers.
-use Rattle.std.specs.Prelude.{◌≡◌, ℕ, Bool, true, List, Option, IfSome}
+-- What the methods of a leaf type answer.
+use Rattle.std.specs.Prelude.{ℕ, Bool, List, Option}
+use Rattle.std.specs.declared.cmp.Ordering.{Ordering}
 use Rattle.facet_base.specs.declared.characteristic.Characteristic.{Characteristic}
-use Rattle.facet_base.specs.declared.characteristic.Characteristic.TheVariants as characteristic
 use Rattle.facet_base.specs.declared.scalar_type.ScalarType.{ScalarType}
-use Rattle.facet_base.specs.declared.scalar_type.ScalarType.TheVariants as scalar
+use Rattle.facet_leaf.specs.declared.conversion.Conversion.{Conversion}
+use Rattle.facet_leaf.specs.declared.hook.LeafHook.{LeafHook}
+use Rattle.facet_leaf.specs.HashWrite.{HashWrite}
 
 -- the answers, of which the contracts of a leaf type speak
 pub record LeafModel (L : Type 0) : Type 0 where
-  -- leaves of the kind have the capability
+  -- leaves of the kind have the capability, or the hook
   pub can : ScalarType → Characteristic → Bool
+  pub hook : ScalarType → LeafHook → Bool
   -- the kind of a leaf
   pub kind : L → ScalarType
-  -- the leaf of the kind that a text is, if it is one
-  pub parsed : ScalarType → List ℕ → Option L
-  -- the bytes of the debug text
+  -- equality, the partial order and the total one, of two leaves of one kind
+  pub same : L → L → Bool
+  pub partial_order : L → L → Option Ordering
+  pub order : L → L → Ordering
+  -- the hash writes, in order
+  pub writes : L → List HashWrite
+  -- the bytes of the debug text and of the display text
   pub debug : L → List ℕ
-
--- a kind that leaves may be of
-abbrev pub IsStored : ScalarType → Type 0
-IsStored scalar.Unit = ⊥
-IsStored scalar.Str = ⊥
-IsStored _ = Unit {0}
-
--- what every leaf type must prove of its answers
-pub record LeafLaws {L : Type 0} (m : LeafModel L) : Type 0 where
-  -- a leaf is neither of kind Unit nor of kind Str
-  pub stored : (x : L) → IsStored (m.kind x)
-  -- what is made has the kind that was asked for
-  pub parsed_kind : (k : ScalarType) (text : List ℕ) → IfSome (m.parsed k text) (λ x. m.kind x ≡ k)
-  -- every kind can Debug
-  pub can_debug : (k : ScalarType) → m.can k characteristic.Debug ≡ true
+  pub display : L → List ℕ
+  -- the leaf of the kind that a text is, or that bytes are, if they are one
+  pub parsed : ScalarType → List ℕ → Option L
+  pub parsed_bytes : ScalarType → List ℕ → Option L
+  -- the default of a kind, where it has one
+  pub default_of : ScalarType → Option L
+  -- what a clone is, whether a leaf counts as true, and whether it meets the invariants of its type
+  pub cloned : L → L
+  pub truthy : L → Bool
+  pub holds : L → Bool
+  -- what a leaf becomes in a kind
+  pub converted : ScalarType → L → Conversion L

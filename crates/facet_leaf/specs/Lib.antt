@@ -1,3 +1,9 @@
+pub mod Hash
+pub mod HashWrite
+pub mod LeafLaws
 pub mod LeafModel
+pub mod Proxy
 pub mod Scalar
 pub mod ScalarLaws
+pub mod ScalarModel
+pub mod ScalarTexts

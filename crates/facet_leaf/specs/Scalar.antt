@@ -1,31 +1,193 @@
--- What the methods of the shipped leaf answer.
-use Rattle.std.specs.Prelude.{ℕ, ◌^◌, Bool, true, false, List, Option, None, option_map, decimal}
+-- What the methods of the shipped leaf answer, apart from its texts.
+use Rattle.std.specs.Prelude.{ℕ, ℤ, pos, negsuc, ◌^◌, ◌&&◌, Bool, true, false, not, cond, List, [], ◌∷◌, Option, None, Some, option_map, bytes_eq, if◌then◌else◌, ◌==◌, length, nat_lt}
+use Rattle.std.specs.Cmp.Lexicographic.{slice_cmp}
+use Rattle.std.specs.Ordering.{nat_cmp, int_cmp, int_eq, ordering_then}
+use Rattle.std.specs.declared.cmp.Ordering.{Ordering}
 use Rattle.facet_base.specs.declared.characteristic.Characteristic.{Characteristic}
 use Rattle.facet_base.specs.declared.characteristic.Characteristic.TheVariants as characteristic
 use Rattle.facet_base.specs.declared.scalar_type.ScalarType.{ScalarType}
-use Rattle.facet_base.specs.declared.scalar_type.ScalarType.TheVariants as scalar
+use Rattle.facet_base.specs.declared.scalar_type.ScalarType.TheVariants as kind
+use Rattle.facet_leaf.specs.declared.conversion.Conversion.{Conversion}
+use Rattle.facet_leaf.specs.declared.conversion.Conversion.TheVariants.{Converted, Unsupported, Failed}
+use Rattle.facet_leaf.specs.declared.hook.LeafHook.{LeafHook}
+use Rattle.facet_leaf.specs.declared.hook.LeafHook.TheVariants as hook
 use Rattle.facet_leaf.specs.declared.scalar.Scalar.{Scalar}
-use Rattle.facet_leaf.specs.declared.scalar.Scalar.TheVariants.{U32}
-use Rattle.facet_leaf.specs.LeafModel.{LeafModel}
-use Rattle.facet_base.specs.Numeral.{unsigned_below}
+use Rattle.facet_leaf.specs.declared.scalar.Scalar.TheVariants as scalar
+use Rattle.facet_leaf.specs.HashWrite.{HashWrite, bytes, of_u8, of_u16, of_u32, of_u64, of_u128, of_usize, of_i8, of_i16, of_i32, of_i64, of_i128, of_isize}
 
--- every kind can Debug, and U32 FromStr
+-- every kind can Debug, and a kind that is stored has all capabilities
 abbrev pub scalar_can : ScalarType → Characteristic → Bool
-scalar_can kind characteristic.Debug = true
-scalar_can scalar.U32 characteristic.FromStr = true
-scalar_can kind c = false
+scalar_can k characteristic.Debug = true
+scalar_can kind.Unit c = false
+scalar_can kind.Str c = false
+scalar_can k c = true
 
+-- the kinds of whole numbers
+abbrev pub is_whole : ScalarType → Bool
+is_whole kind.Unit = false
+is_whole kind.Bool = false
+is_whole kind.Char = false
+is_whole kind.Str = false
+is_whole kind.String = false
+is_whole k = true
+
+-- bytes are parsed as a String alone, whole numbers are converted into, and every stored kind has a truth value
+abbrev pub scalar_hook : ScalarType → LeafHook → Bool
+scalar_hook kind.String hook.ParseBytes = true
+scalar_hook k hook.ParseBytes = false
+scalar_hook k hook.TryFrom = is_whole k
+scalar_hook k hook.Invariants = false
+scalar_hook kind.Unit hook.Truthy = false
+scalar_hook kind.Str hook.Truthy = false
+scalar_hook k hook.Truthy = true
+
+-- the kind of each variant
 abbrev pub scalar_kind : Scalar → ScalarType
-scalar_kind (U32 n) = scalar.U32
+scalar_kind (scalar.Bool _) = kind.Bool
+scalar_kind (scalar.Char _) = kind.Char
+scalar_kind (scalar.String _) = kind.String
+scalar_kind (scalar.U8 _) = kind.U8
+scalar_kind (scalar.U16 _) = kind.U16
+scalar_kind (scalar.U32 _) = kind.U32
+scalar_kind (scalar.U64 _) = kind.U64
+scalar_kind (scalar.U128 _) = kind.U128
+scalar_kind (scalar.USize _) = kind.USize
+scalar_kind (scalar.I8 _) = kind.I8
+scalar_kind (scalar.I16 _) = kind.I16
+scalar_kind (scalar.I32 _) = kind.I32
+scalar_kind (scalar.I64 _) = kind.I64
+scalar_kind (scalar.I128 _) = kind.I128
+scalar_kind (scalar.ISize _) = kind.ISize
 
--- a whole number below 2 ^ 32
-abbrev pub scalar_parsed : ScalarType → List ℕ → Option Scalar
-scalar_parsed scalar.U32 text = option_map U32 (unsigned_below (2 ^ 32) text)
-scalar_parsed kind text = None
+-- the number that a scalar is: of a truth value 0 or 1, of a character its code point, of a String 0
+abbrev pub number_of : Scalar → ℤ
+number_of (scalar.Bool b) = pos (cond b 1 0)
+number_of (scalar.Char c) = pos c
+number_of (scalar.String text) = pos 0
+number_of (scalar.U8 n) = pos n
+number_of (scalar.U16 n) = pos n
+number_of (scalar.U32 n) = pos n
+number_of (scalar.U64 n) = pos n
+number_of (scalar.U128 n) = pos n
+number_of (scalar.USize n) = pos n
+number_of (scalar.I8 z) = z
+number_of (scalar.I16 z) = z
+number_of (scalar.I32 z) = z
+number_of (scalar.I64 z) = z
+number_of (scalar.I128 z) = z
+number_of (scalar.ISize z) = z
 
--- a number in decimal digits
-abbrev pub scalar_debug : Scalar → List ℕ
-scalar_debug (U32 n) = decimal n
+-- the bytes that a scalar is, of all but a String none
+abbrev pub bytes_of : Scalar → List ℕ
+bytes_of (scalar.String text) = text
+bytes_of x = []
 
-abbrev pub scalar_model : LeafModel Scalar
-scalar_model = record { can = scalar_can; kind = scalar_kind; parsed = scalar_parsed; debug = scalar_debug }
+-- of two scalars of one kind: numbers are compared by value, truth values with false first, characters by code point, and Strings by bytes
+abbrev pub scalar_order : Scalar → Scalar → Ordering
+scalar_order x y = ordering_then (int_cmp (number_of x) (number_of y)) (slice_cmp nat_cmp (bytes_of x) (bytes_of y))
+
+-- of two scalars of one kind: the same value
+abbrev pub same_value : Scalar → Scalar → Bool
+same_value x y = int_eq (number_of x) (number_of y) && bytes_eq (bytes_of x) (bytes_of y)
+
+-- the place of a kind among all
+abbrev pub place_of_kind : ScalarType → ℕ
+place_of_kind kind.Unit = 0
+place_of_kind kind.Bool = 1
+place_of_kind kind.Char = 2
+place_of_kind kind.Str = 3
+place_of_kind kind.String = 4
+place_of_kind kind.U8 = 5
+place_of_kind kind.U16 = 6
+place_of_kind kind.U32 = 7
+place_of_kind kind.U64 = 8
+place_of_kind kind.U128 = 9
+place_of_kind kind.USize = 10
+place_of_kind kind.I8 = 11
+place_of_kind kind.I16 = 12
+place_of_kind kind.I32 = 13
+place_of_kind kind.I64 = 14
+place_of_kind kind.I128 = 15
+place_of_kind kind.ISize = 16
+
+-- the same kind, and the same value
+abbrev pub scalar_same : Scalar → Scalar → Bool
+scalar_same x y = place_of_kind (scalar_kind x) == place_of_kind (scalar_kind y) && same_value x y
+
+-- each kind writes its value by the write of its type, a truth value as a byte, a character as four bytes, and a String its bytes and then the byte 255
+abbrev pub scalar_writes : Scalar → List HashWrite
+scalar_writes (scalar.Bool b) = of_u8 (cond b 1 0) ∷ []
+scalar_writes (scalar.Char c) = of_u32 c ∷ []
+scalar_writes (scalar.String text) = bytes text ∷ of_u8 255 ∷ []
+scalar_writes (scalar.U8 x) = of_u8 x ∷ []
+scalar_writes (scalar.U16 x) = of_u16 x ∷ []
+scalar_writes (scalar.U32 x) = of_u32 x ∷ []
+scalar_writes (scalar.U64 x) = of_u64 x ∷ []
+scalar_writes (scalar.U128 x) = of_u128 x ∷ []
+scalar_writes (scalar.USize x) = of_usize x ∷ []
+scalar_writes (scalar.I8 x) = of_i8 x ∷ []
+scalar_writes (scalar.I16 x) = of_i16 x ∷ []
+scalar_writes (scalar.I32 x) = of_i32 x ∷ []
+scalar_writes (scalar.I64 x) = of_i64 x ∷ []
+scalar_writes (scalar.I128 x) = of_i128 x ∷ []
+scalar_writes (scalar.ISize x) = of_isize x ∷ []
+
+-- false, the character 0, the empty text, and 0
+abbrev pub scalar_default : ScalarType → Option Scalar
+scalar_default kind.Bool = Some (scalar.Bool false)
+scalar_default kind.Char = Some (scalar.Char 0)
+scalar_default kind.String = Some (scalar.String [])
+scalar_default kind.U8 = Some (scalar.U8 0)
+scalar_default kind.U16 = Some (scalar.U16 0)
+scalar_default kind.U32 = Some (scalar.U32 0)
+scalar_default kind.U64 = Some (scalar.U64 0)
+scalar_default kind.U128 = Some (scalar.U128 0)
+scalar_default kind.USize = Some (scalar.USize 0)
+scalar_default kind.I8 = Some (scalar.I8 (pos 0))
+scalar_default kind.I16 = Some (scalar.I16 (pos 0))
+scalar_default kind.I32 = Some (scalar.I32 (pos 0))
+scalar_default kind.I64 = Some (scalar.I64 (pos 0))
+scalar_default kind.I128 = Some (scalar.I128 (pos 0))
+scalar_default kind.ISize = Some (scalar.ISize (pos 0))
+scalar_default kind.Unit = None
+scalar_default kind.Str = None
+
+-- true, not 0, not the character 0, not empty
+abbrev pub scalar_truthy : Scalar → Bool
+scalar_truthy (scalar.String text) = nat_lt 0 (length text)
+scalar_truthy x = not (int_eq (number_of x) (pos 0))
+
+-- a number as one of an unsigned type of so many bits
+abbrev pub unsigned_of : ℕ → ℤ → Option ℕ
+unsigned_of bits (pos n) = if nat_lt n (2 ^ bits) then Some n else None
+unsigned_of bits (negsuc n) = None
+
+-- a number as one of a signed type with so many bits beside the sign
+abbrev pub signed_of : ℕ → ℤ → Option ℤ
+signed_of bits (pos n) = if nat_lt n (2 ^ bits) then Some (pos n) else None
+signed_of bits (negsuc n) = if nat_lt n (2 ^ bits) then Some (negsuc n) else None
+
+-- the whole number of a kind with this value, where there is one
+abbrev pub whole_of : ScalarType → ℤ → Option Scalar
+whole_of kind.U8 z = option_map scalar.U8 (unsigned_of 8 z)
+whole_of kind.U16 z = option_map scalar.U16 (unsigned_of 16 z)
+whole_of kind.U32 z = option_map scalar.U32 (unsigned_of 32 z)
+whole_of kind.U64 z = option_map scalar.U64 (unsigned_of 64 z)
+whole_of kind.U128 z = option_map scalar.U128 (unsigned_of 128 z)
+whole_of kind.USize z = option_map scalar.USize (unsigned_of 64 z)
+whole_of kind.I8 z = option_map scalar.I8 (signed_of 7 z)
+whole_of kind.I16 z = option_map scalar.I16 (signed_of 15 z)
+whole_of kind.I32 z = option_map scalar.I32 (signed_of 31 z)
+whole_of kind.I64 z = option_map scalar.I64 (signed_of 63 z)
+whole_of kind.I128 z = option_map scalar.I128 (signed_of 127 z)
+whole_of kind.ISize z = option_map scalar.ISize (signed_of 63 z)
+whole_of k z = None
+
+-- the value in the kind, or the scalar that was given
+abbrev pub conversion_of : Scalar → Option Scalar → Conversion Scalar
+conversion_of x None = Failed x
+conversion_of x (Some y) = Converted y
+
+-- a whole number keeps its value, and fails where the kind hasn't it; nothing else is converted
+abbrev pub scalar_converted : ScalarType → Scalar → Conversion Scalar
+scalar_converted k x = if is_whole (scalar_kind x) then conversion_of x (whole_of k (number_of x)) else Unsupported x

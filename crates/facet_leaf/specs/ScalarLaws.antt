@@ -1,23 +1,214 @@
 -- What holds of the answers of the shipped leaf.
-use Rattle.std.specs.Prelude.{◌≡◌, ℕ, List, Option, None, Some, IfSome, option_map, refl}
+use Rattle.std.proofs.Common.{◌≡◌, ◌↔◌, ◌∙◌, refl, sym, ℕ, ℤ, nat_abs, ◌^◌, Bool, true, false, ◌&&◌, cond, nat_eq, ap, List, [], ◌∷◌, Option, None, Some, IfSome, IsSome, option_map, true≢false}
+use Rattle.std.specs.Cmp.{IsEquivalence, IsPartialOrder, IsTotalOrder, Equal-is, and_equiv, both_tied, first_so, int_cmp_total, int_eq_equiv, on_equiv, on_total, po, second_so, signed_Decides, then_total}
+use Rattle.std.specs.Cmp.Lexicographic.{bytes_decides, nat_list_cmp_total, nat_list_eq_equiv, slice_cmp, texts_ties}
+use Rattle.std.specs.Ordering.{is_eq, nat_cmp, int_cmp, int_eq}
+use Rattle.std.specs.declared.cmp.Ordering.TheVariants.{Equal}
+use Rattle.std.specs.Str.{bytes_eq, chars, is_utf8}
+use Rattle.std.proofs.lemmas.Cmp.{nat_eq_equiv}
+use Rattle.facet_base.specs.Numeral.{signed_in, unsigned_below}
+use Rattle.facet_base.specs.declared.characteristic.Characteristic.TheVariants as characteristic
 use Rattle.facet_base.specs.declared.scalar_type.ScalarType.{ScalarType}
-use Rattle.facet_base.specs.declared.scalar_type.ScalarType.TheVariants as scalar
+use Rattle.facet_base.specs.declared.scalar_type.ScalarType.TheVariants as kind
+use Rattle.facet_leaf.specs.declared.conversion.Conversion.TheVariants.{Unsupported}
 use Rattle.facet_leaf.specs.declared.scalar.Scalar.{Scalar}
-use Rattle.facet_leaf.specs.declared.scalar.Scalar.TheVariants.{U32}
-use Rattle.facet_leaf.specs.LeafModel.{LeafLaws, IsStored}
-use Rattle.facet_base.specs.Numeral.{unsigned_below}
-use Rattle.facet_leaf.specs.Scalar.{scalar_kind, scalar_parsed, scalar_model}
+use Rattle.facet_leaf.specs.declared.scalar.Scalar.TheVariants as scalar
+use Rattle.facet_leaf.specs.HashWrite.{HashWrite, bytes, of_u8, of_u16, of_u32, of_u64, of_u128, of_usize, of_i8, of_i16, of_i32, of_i64, of_i128, of_isize}
+use Rattle.facet_leaf.specs.LeafLaws.{IsConversion, IsStored, LeafLaws}
+use Rattle.facet_leaf.specs.Scalar.{bytes_of, conversion_of, is_whole, number_of, place_of_kind, same_value, scalar_can, scalar_converted, scalar_default, scalar_kind, scalar_order, scalar_same, scalar_writes, signed_of, unsigned_of, whole_of}
+use Rattle.facet_leaf.specs.ScalarModel.{scalar_model}
+use Rattle.facet_leaf.specs.ScalarTexts.{only, scalar_parsed, scalar_parsed_bytes, truth_of}
 
+-- a scalar is neither of kind Unit nor of kind Str
 is_stored : (x : Scalar) → IsStored (scalar_kind x)
-is_stored (U32 n) = tt
+is_stored (scalar.Bool _) = tt
+is_stored x = tt
 
-of_number : (parsed : Option ℕ) → IfSome (option_map U32 parsed) (λ x. scalar_kind x ≡ scalar.U32)
-of_number None = tt
-of_number (Some n) = refl
+-- every kind can Debug
+can_debug : (k : ScalarType) → scalar_can k characteristic.Debug ≡ true
+can_debug kind.Unit = refl
+can_debug k = refl
 
-has_kind : (k : ScalarType) (text : List ℕ) → IfSome (scalar_parsed k text) (λ x. scalar_kind x ≡ k)
-has_kind scalar.U32 text = of_number (unsigned_below 4294967296 text)
-has_kind k text = tt
+-- a kind that can Ord can PartialOrd
+ord_can : (k : ScalarType) → scalar_can k characteristic.Ord ≡ true → scalar_can k characteristic.PartialOrd ≡ true
+ord_can kind.Unit h = h
+ord_can k h = h
 
+-- a kind that can PartialOrd can PartialEq
+partial_ord_can : (k : ScalarType) → scalar_can k characteristic.PartialOrd ≡ true → scalar_can k characteristic.PartialEq ≡ true
+partial_ord_can kind.Unit h = h
+partial_ord_can k h = h
+
+-- having the same value is an equivalence
+value_equivalence : IsEquivalence same_value
+value_equivalence = and_equiv (on_equiv number_of int_eq_equiv) (on_equiv bytes_of nat_list_eq_equiv)
+
+-- equality is an equivalence
+equivalence : IsEquivalence scalar_same
+equivalence = and_equiv (on_equiv (λ x. place_of_kind (scalar_kind x)) nat_eq_equiv) value_equivalence
+
+-- of two scalars of one kind equality looks at the value alone
+pub same_of_one_kind : (x y : Scalar) → scalar_kind x ≡ scalar_kind y → scalar_same x y ≡ same_value x y
+same_of_one_kind x y one_kind =
+    sym (λ i. nat_eq (place_of_kind (scalar_kind x)) (place_of_kind (one_kind i)) && same_value x y)
+    ∙ ap (λ test. test && same_value x y) (nat_eq_equiv.refl (place_of_kind (scalar_kind x)))
+
+-- the order is a total one
+total : IsTotalOrder scalar_order
+total = then_total (on_total number_of int_cmp_total) (on_total bytes_of nat_list_cmp_total)
+
+-- two scalars have the same value where the order answers Equal
+ties : (x y : Scalar) → same_value x y ≡ is_eq (scalar_order x y)
+ties x y = both_tied (int_eq (number_of x) (number_of y)) (bytes_eq (bytes_of x) (bytes_of y)) (int_cmp (number_of x) (number_of y)) (slice_cmp nat_cmp (bytes_of x) (bytes_of y)) refl (texts_ties (bytes_of x) (bytes_of y))
+
+-- the order is a partial one up to the value
+partial : IsPartialOrder same_value (λ x y. Some (scalar_order x y))
+partial = po total ties
+
+-- of two scalars of one kind the order answers Equal exactly where they are equal
+order_equal : (x y : Scalar) → scalar_kind x ≡ scalar_kind y → (scalar_order x y ≡ Equal) ↔ (scalar_same x y ≡ true)
+order_equal x y one_kind =
+    let tied = same_of_one_kind x y one_kind ∙ ties x y in
+    (λ e. tied ∙ (Equal-is (scalar_order x y)).1 e, λ e. (Equal-is (scalar_order x y)).0 (sym tied ∙ e))
+
+-- the same of the partial order
+partial_equal : (x y : Scalar) → scalar_kind x ≡ scalar_kind y → (Some (scalar_order x y) ≡ Some Equal) ↔ (scalar_same x y ≡ true)
+partial_equal x y one_kind =
+    let value = same_of_one_kind x y one_kind in
+    (λ e. value ∙ (partial.matches_eq x y).1 e, λ e. (partial.matches_eq x y).0 (sym value ∙ e))
+
+-- the writes of the scalar of a kind with a number and bytes
+writes_of : ScalarType → ℤ → List ℕ → List HashWrite
+writes_of kind.Bool z text = of_u8 (nat_abs z) ∷ []
+writes_of kind.Char z text = of_u32 (nat_abs z) ∷ []
+writes_of kind.String z text = bytes text ∷ of_u8 255 ∷ []
+writes_of kind.U8 z text = of_u8 (nat_abs z) ∷ []
+writes_of kind.U16 z text = of_u16 (nat_abs z) ∷ []
+writes_of kind.U32 z text = of_u32 (nat_abs z) ∷ []
+writes_of kind.U64 z text = of_u64 (nat_abs z) ∷ []
+writes_of kind.U128 z text = of_u128 (nat_abs z) ∷ []
+writes_of kind.USize z text = of_usize (nat_abs z) ∷ []
+writes_of kind.I8 z text = of_i8 z ∷ []
+writes_of kind.I16 z text = of_i16 z ∷ []
+writes_of kind.I32 z text = of_i32 z ∷ []
+writes_of kind.I64 z text = of_i64 z ∷ []
+writes_of kind.I128 z text = of_i128 z ∷ []
+writes_of kind.ISize z text = of_isize z ∷ []
+writes_of k z text = []
+
+-- what a scalar writes follows from its kind, its number and its bytes
+writes_are : (x : Scalar) → scalar_writes x ≡ writes_of (scalar_kind x) (number_of x) (bytes_of x)
+unfolding writes_of
+writes_are (scalar.Bool _) = refl
+writes_are x = refl
+
+-- equal scalars of one kind write the same
+writes_same : (x y : Scalar) → scalar_kind x ≡ scalar_kind y → scalar_same x y ≡ true → scalar_writes x ≡ scalar_writes y
+writes_same x y one_kind equal =
+    let same = sym (same_of_one_kind x y one_kind) ∙ equal in
+    let numbers = (signed_Decides (number_of x) (number_of y)).0 (first_so (int_eq (number_of x) (number_of y)) (bytes_eq (bytes_of x) (bytes_of y)) same) in
+    let texts = (bytes_decides (bytes_of x) (bytes_of y)).0 (second_so (int_eq (number_of x) (number_of y)) (bytes_eq (bytes_of x) (bytes_of y)) same) in
+    writes_are x ∙ (λ i. writes_of (one_kind i) (numbers i) (texts i)) ∙ sym (writes_are y)
+
+-- what is made of a value that may be missing has the kind that each made one has
+mapped : {A : Type 0} (f : A → Scalar) (k : ScalarType) → ((a : A) → scalar_kind (f a) ≡ k) → (o : Option A) → IfSome (option_map f o) (λ x. scalar_kind x ≡ k)
+mapped f k h None = tt
+mapped f k h (Some a) = h a
+
+-- what a test lets through has its kind
+chosen : (x : Scalar) (k : ScalarType) → scalar_kind x ≡ k → (b : Bool) → IfSome (cond b (Some x) None) (λ y. scalar_kind y ≡ k)
+chosen x k h true = h
+chosen x k h false = tt
+
+-- a scalar that a text is has the kind that was asked for
+parsed_kind : (k : ScalarType) (text : List ℕ) → IfSome (scalar_parsed k text) (λ x. scalar_kind x ≡ k)
+unfolding scalar_parsed
+parsed_kind kind.Bool text = mapped scalar.Bool kind.Bool (λ _. refl) (truth_of text)
+parsed_kind kind.Char text = mapped scalar.Char kind.Char (λ _. refl) (only (chars text))
+parsed_kind kind.String text = refl
+parsed_kind kind.U8 text = mapped scalar.U8 kind.U8 (λ _. refl) (unsigned_below (2 ^ 8) text)
+parsed_kind kind.U16 text = mapped scalar.U16 kind.U16 (λ _. refl) (unsigned_below (2 ^ 16) text)
+parsed_kind kind.U32 text = mapped scalar.U32 kind.U32 (λ _. refl) (unsigned_below (2 ^ 32) text)
+parsed_kind kind.U64 text = mapped scalar.U64 kind.U64 (λ _. refl) (unsigned_below (2 ^ 64) text)
+parsed_kind kind.U128 text = mapped scalar.U128 kind.U128 (λ _. refl) (unsigned_below (2 ^ 128) text)
+parsed_kind kind.USize text = mapped scalar.USize kind.USize (λ _. refl) (unsigned_below (2 ^ 64) text)
+parsed_kind kind.I8 text = mapped scalar.I8 kind.I8 (λ _. refl) (signed_in 7 text)
+parsed_kind kind.I16 text = mapped scalar.I16 kind.I16 (λ _. refl) (signed_in 15 text)
+parsed_kind kind.I32 text = mapped scalar.I32 kind.I32 (λ _. refl) (signed_in 31 text)
+parsed_kind kind.I64 text = mapped scalar.I64 kind.I64 (λ _. refl) (signed_in 63 text)
+parsed_kind kind.I128 text = mapped scalar.I128 kind.I128 (λ _. refl) (signed_in 127 text)
+parsed_kind kind.ISize text = mapped scalar.ISize kind.ISize (λ _. refl) (signed_in 63 text)
+parsed_kind k text = tt
+
+-- a scalar that bytes are has the kind that was asked for
+parsed_bytes_kind : (k : ScalarType) (text : List ℕ) → IfSome (scalar_parsed_bytes k text) (λ x. scalar_kind x ≡ k)
+parsed_bytes_kind kind.String text = chosen (scalar.String text) kind.String refl (is_utf8 text)
+parsed_bytes_kind k text = tt
+
+-- a default has its kind
+default_kind : (k : ScalarType) → IfSome (scalar_default k) (λ x. scalar_kind x ≡ k)
+default_kind kind.Unit = tt
+default_kind kind.Str = tt
+default_kind k = refl
+
+-- each kind that can Default has one
+default_there : (k : ScalarType) → scalar_can k characteristic.Default ≡ true → IsSome (scalar_default k)
+default_there kind.Unit h = absurd (true≢false (sym h))
+default_there kind.Str h = absurd (true≢false (sym h))
+default_there k h = refl
+
+-- a whole number of a kind has that kind
+whole_kind : (k : ScalarType) (z : ℤ) → IfSome (whole_of k z) (λ x. scalar_kind x ≡ k)
+whole_kind kind.U8 z = mapped scalar.U8 kind.U8 (λ _. refl) (unsigned_of 8 z)
+whole_kind kind.U16 z = mapped scalar.U16 kind.U16 (λ _. refl) (unsigned_of 16 z)
+whole_kind kind.U32 z = mapped scalar.U32 kind.U32 (λ _. refl) (unsigned_of 32 z)
+whole_kind kind.U64 z = mapped scalar.U64 kind.U64 (λ _. refl) (unsigned_of 64 z)
+whole_kind kind.U128 z = mapped scalar.U128 kind.U128 (λ _. refl) (unsigned_of 128 z)
+whole_kind kind.USize z = mapped scalar.USize kind.USize (λ _. refl) (unsigned_of 64 z)
+whole_kind kind.I8 z = mapped scalar.I8 kind.I8 (λ _. refl) (signed_of 7 z)
+whole_kind kind.I16 z = mapped scalar.I16 kind.I16 (λ _. refl) (signed_of 15 z)
+whole_kind kind.I32 z = mapped scalar.I32 kind.I32 (λ _. refl) (signed_of 31 z)
+whole_kind kind.I64 z = mapped scalar.I64 kind.I64 (λ _. refl) (signed_of 63 z)
+whole_kind kind.I128 z = mapped scalar.I128 kind.I128 (λ _. refl) (signed_of 127 z)
+whole_kind kind.ISize z = mapped scalar.ISize kind.ISize (λ _. refl) (signed_of 63 z)
+whole_kind k z = tt
+
+-- what a scalar becomes is of the kind, or the scalar itself
+converted_to : (k : ScalarType) (x : Scalar) (o : Option Scalar) → IfSome o (λ y. scalar_kind y ≡ k) → IsConversion scalar_model k x (conversion_of x o)
+converted_to k x None h = refl
+converted_to k x (Some y) h = h
+
+-- the same behind a test
+converted_where : (k : ScalarType) (x : Scalar) (b : Bool) → IsConversion scalar_model k x (cond b (conversion_of x (whole_of k (number_of x))) (Unsupported x))
+converted_where k x true = converted_to k x (whole_of k (number_of x)) (whole_kind k (number_of x))
+converted_where k x false = refl
+
+-- what is converted into a kind is of it, and what isn't is the scalar that was given
+conversion : (k : ScalarType) (x : Scalar) → IsConversion scalar_model k x (scalar_converted k x)
+conversion k x = converted_where k x (is_whole (scalar_kind x))
+
+-- all the laws of leaves
 pub scalar_laws : LeafLaws scalar_model
-scalar_laws = record { stored = is_stored; parsed_kind = has_kind; can_debug = λ k. refl }
+scalar_laws = record {
+  stored = is_stored;
+  can_debug = can_debug;
+  ord_can_partial_ord = ord_can;
+  partial_ord_can_partial_eq = partial_ord_can;
+  same_reflexive = λ x _. equivalence.refl x;
+  same_symmetric = λ x y _. equivalence.symm x y;
+  same_transitive = λ x y z _ _ p q. equivalence.congr x y z p ∙ q;
+  order_reversed = λ x y _. total.antisymm y x;
+  order_transitive = λ x y z _ _ p q. total.trans x y z p q;
+  order_equal = λ x y have. order_equal x y have.one_kind;
+  partial_total = λ x y _. refl;
+  partial_equal = λ x y have. partial_equal x y have.one_kind;
+  partial_reversed = λ x y _. partial.antisymm y x;
+  writes_same = λ x y have _ same. writes_same x y have.one_kind same;
+  cloned_kind = λ x _. refl;
+  cloned_same = λ x _ _. equivalence.refl x;
+  parsed_kind = parsed_kind;
+  parsed_bytes_kind = parsed_bytes_kind;
+  default_kind = default_kind;
+  default_there = default_there;
+  conversion = conversion;
+}

@@ -1,8 +1,29 @@
 //! Leaves: the scalars that blocks store, each met by one record of what its methods answer.
 #![tactic(auto)]
 
+mod conversion;
+mod convert;
+mod fnv;
+mod hash;
+mod hash_proxy;
+mod hash_sink;
+mod hook;
+mod kinds;
 mod leaf;
+mod number;
+mod order;
+mod parse;
+mod recorder;
 mod scalar;
+#[cfg(test)]
+mod tests;
+mod texts;
 
+pub use conversion::{Conversion, NoRoom};
+pub use fnv::Fnv128;
+pub use hash_proxy::HashProxy;
+pub use hash_sink::HashSink;
+pub use hook::LeafHook;
 pub use leaf::Leaf;
+pub use recorder::Recorder;
 pub use scalar::Scalar;

@@ -1,7 +1,8 @@
 -- What follows of a leaf that was parsed.
 use Rattle.std.proofs.Common.{◌≡◌, ℕ, List, Option, None, Some, Ok, Err, IfSome, refl, sym, ap, ◌∙◌, subst, ok_or}
 use Rattle.facet_base.specs.declared.scalar_type.ScalarType.{ScalarType}
-use Rattle.facet_leaf.specs.LeafModel.{LeafModel, LeafLaws}
+use Rattle.facet_leaf.specs.LeafLaws.{LeafLaws}
+use Rattle.facet_leaf.specs.LeafModel.{LeafModel}
 use Rattle.facet_shapes.specs.declared.value_kind.ValueKind.{ValueKind}
 use Rattle.facet_shapes.specs.declared.value_kind.ValueKind.TheVariants as kind
 

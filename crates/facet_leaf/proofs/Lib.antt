@@ -1,0 +1,5 @@
+mod Made
+pub mod Parsing
+pub mod Proxies
+pub mod Quoted
+pub mod Writes

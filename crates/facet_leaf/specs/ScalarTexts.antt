@@ -1,0 +1,72 @@
+-- The texts of the shipped leaf.
+use Rattle.std.specs.Prelude.{ℕ, ◌^◌, ◌||◌, Bool, true, false, List, [], ◌∷◌, ◌++◌, codes, Option, None, Some, option_map, bytes_eq, if◌then◌else◌, ◌==◌, nat_lt, encode_utf8}
+use Rattle.std.specs.Fmt.{digits, signed_decimal}
+use Rattle.std.specs.List.{flat_map}
+use Rattle.std.specs.Str.{chars, is_utf8}
+use Rattle.facet_base.specs.Numeral.{unsigned_below, signed_in}
+use Rattle.facet_base.specs.declared.scalar_type.ScalarType.{ScalarType}
+use Rattle.facet_base.specs.declared.scalar_type.ScalarType.TheVariants as kind
+use Rattle.facet_leaf.specs.declared.scalar.Scalar.{Scalar}
+use Rattle.facet_leaf.specs.declared.scalar.Scalar.TheVariants as scalar
+use Rattle.facet_leaf.specs.Scalar.{number_of}
+
+-- `true` and `false`
+abbrev pub truth_of : List ℕ → Option Bool
+truth_of text = if bytes_eq text (codes "true") then Some true else (if bytes_eq text (codes "false") then Some false else None)
+
+-- the one character of a list of characters
+abbrev pub only : List ℕ → Option ℕ
+only (c ∷ []) = Some c
+only _ = None
+
+-- the scalar of the kind that a text is: a whole number in its range, `true` or `false`, exactly one character, or any text
+unfoldable pub scalar_parsed : ScalarType → List ℕ → Option Scalar
+scalar_parsed kind.Bool text = option_map scalar.Bool (truth_of text)
+scalar_parsed kind.Char text = option_map scalar.Char (only (chars text))
+scalar_parsed kind.String text = Some (scalar.String text)
+scalar_parsed kind.U8 text = option_map scalar.U8 (unsigned_below (2 ^ 8) text)
+scalar_parsed kind.U16 text = option_map scalar.U16 (unsigned_below (2 ^ 16) text)
+scalar_parsed kind.U32 text = option_map scalar.U32 (unsigned_below (2 ^ 32) text)
+scalar_parsed kind.U64 text = option_map scalar.U64 (unsigned_below (2 ^ 64) text)
+scalar_parsed kind.U128 text = option_map scalar.U128 (unsigned_below (2 ^ 128) text)
+scalar_parsed kind.USize text = option_map scalar.USize (unsigned_below (2 ^ 64) text)
+scalar_parsed kind.I8 text = option_map scalar.I8 (signed_in 7 text)
+scalar_parsed kind.I16 text = option_map scalar.I16 (signed_in 15 text)
+scalar_parsed kind.I32 text = option_map scalar.I32 (signed_in 31 text)
+scalar_parsed kind.I64 text = option_map scalar.I64 (signed_in 63 text)
+scalar_parsed kind.I128 text = option_map scalar.I128 (signed_in 127 text)
+scalar_parsed kind.ISize text = option_map scalar.ISize (signed_in 63 text)
+scalar_parsed k text = None
+
+-- the String that bytes are, exactly where they are UTF-8
+abbrev pub scalar_parsed_bytes : ScalarType → List ℕ → Option Scalar
+scalar_parsed_bytes kind.String bytes = if is_utf8 bytes then Some (scalar.String bytes) else None
+scalar_parsed_bytes k bytes = None
+
+-- a byte as it stands between two quotes: tab, carriage return, newline, NUL, backslash and the quote behind a backslash, another byte below 32 and 127 by its number, and all others unchanged
+abbrev pub escaped : ℕ → ℕ → List ℕ
+escaped quote b =
+    if b == 9 then codes "\\t" else (if b == 13 then codes "\\r" else (if b == 10 then codes "\\n" else (if b == 0 then codes "\\0" else (if b == 92 || b == quote then 92 ∷ b ∷ []
+    else (if nat_lt b 32 || b == 127 then codes "\\u{" ++ digits 16 false b ++ codes "}" else b ∷ [])))))
+
+-- bytes between two quotes
+abbrev pub quoted : ℕ → List ℕ → List ℕ
+quoted quote bytes = quote ∷ [] ++ flat_map (escaped quote) bytes ++ quote ∷ []
+
+-- the word of a truth value
+abbrev pub truth_text : Bool → List ℕ
+truth_text true = codes "true"
+truth_text false = codes "false"
+
+-- the plain value
+abbrev pub scalar_display : Scalar → List ℕ
+scalar_display (scalar.Bool b) = truth_text b
+scalar_display (scalar.Char c) = encode_utf8 c
+scalar_display (scalar.String text) = text
+scalar_display x = signed_decimal (number_of x)
+
+-- numbers and truth values as displayed, a character between `'`, and a String between `"`
+abbrev pub scalar_debug : Scalar → List ℕ
+scalar_debug (scalar.Char c) = quoted 39 (encode_utf8 c)
+scalar_debug (scalar.String text) = quoted 34 text
+scalar_debug x = scalar_display x

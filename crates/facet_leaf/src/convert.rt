@@ -1,0 +1,61 @@
+ghost use Rattle.std.specs.Prelude.{◌≡◌, pos, negsuc};
+ghost use Rattle.facet_leaf.specs.Scalar.{scalar_converted, whole_of};
+
+use crate::conversion::Conversion;
+use crate::kinds::{is_whole_kind, scalar_kind_of};
+use crate::number::read_number;
+use crate::scalar::Scalar;
+use facet_base::ScalarType;
+
+// What a scalar becomes in a kind.
+pub(crate) fn convert_scalar(kind: ScalarType, from: Scalar) -> Conversion<Scalar>
+    ensures { result ≡ scalar_converted kind from }
+{
+    if !is_whole_kind(scalar_kind_of(&from)) {
+        return Conversion::Unsupported(from);
+    }
+    let whole = match read_number(&from) {
+        (false, n) => whole_at_least_zero(kind, n),
+        (true, n) => whole_below_zero(kind, n),
+    };
+    match whole {
+        Some(leaf) => Conversion::Converted(leaf),
+        None => Conversion::Failed(from),
+    }
+}
+
+// The whole number n of a kind, where there is one.
+fn whole_at_least_zero(kind: ScalarType, n: u128) -> Option<Scalar>
+    ensures { result ≡ whole_of kind (pos n) }
+{
+    match kind {
+        ScalarType::U8 => Some(Scalar::U8(u8::try_from(n).ok()?)),
+        ScalarType::U16 => Some(Scalar::U16(u16::try_from(n).ok()?)),
+        ScalarType::U32 => Some(Scalar::U32(u32::try_from(n).ok()?)),
+        ScalarType::U64 => Some(Scalar::U64(u64::try_from(n).ok()?)),
+        ScalarType::U128 => Some(Scalar::U128(n)),
+        ScalarType::USize => Some(Scalar::USize(usize::try_from(n).ok()?)),
+        ScalarType::I8 => Some(Scalar::I8(i8::try_from(n).ok()?)),
+        ScalarType::I16 => Some(Scalar::I16(i16::try_from(n).ok()?)),
+        ScalarType::I32 => Some(Scalar::I32(i32::try_from(n).ok()?)),
+        ScalarType::I64 => Some(Scalar::I64(i64::try_from(n).ok()?)),
+        ScalarType::I128 => Some(Scalar::I128(i128::try_from(n).ok()?)),
+        ScalarType::ISize => Some(Scalar::ISize(isize::try_from(n).ok()?)),
+        _ => None,
+    }
+}
+
+// The whole number -1 - n of a kind, where there is one.
+fn whole_below_zero(kind: ScalarType, n: u128) -> Option<Scalar>
+    ensures { result ≡ whole_of kind (negsuc n) }
+{
+    match kind {
+        ScalarType::I8 => Some(Scalar::I8(-1 - i8::try_from(n).ok()?)),
+        ScalarType::I16 => Some(Scalar::I16(-1 - i16::try_from(n).ok()?)),
+        ScalarType::I32 => Some(Scalar::I32(-1 - i32::try_from(n).ok()?)),
+        ScalarType::I64 => Some(Scalar::I64(-1 - i64::try_from(n).ok()?)),
+        ScalarType::I128 => Some(Scalar::I128(-1 - i128::try_from(n).ok()?)),
+        ScalarType::ISize => Some(Scalar::ISize(-1 - isize::try_from(n).ok()?)),
+        _ => None,
+    }
+}
