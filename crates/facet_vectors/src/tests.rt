@@ -93,13 +93,23 @@ fn each_script_has_its_answers(rt: HostRuntime) -> Result<(), Fail> {
         ),
         (
             "put a #15 x\nput a #16 x\nput a #999999999 x\nput a #1000000000 x\nput a #06 x\nput a 6 x\n",
-            "unsupported\nno such shape\nno such shape\nsyntax\nsyntax\nsyntax\nend\n",
+            "bad text\nno such shape\nno such shape\nsyntax\nsyntax\nsyntax\nend\n",
             7,
         ),
         (
             "put abcdefghijklmnopqrstuvwxyz_01234 #6 1\nput abcdefghijklmnopqrstuvwxyz_012345 #6 1\nput a-b #6 1\n",
             "ok made [1]\nsyntax\nsyntax\nend dropped [1]\n",
             4,
+        ),
+        (
+            "put s #3 \nput s #3 x\nput t #3 a\"b\\c\n",
+            "ok made [\"\"]\ntaken\nok made [\"a\\\"b\\\\c\"]\nend dropped [\"\", \"a\\\"b\\\\c\"]\n",
+            4,
+        ),
+        (
+            "put s #3 \nput t #3 a\"b\\c\nput n #14 -170141183460469231731687303715884105728\nput c #2 é\nput b #1 yes\nput u #0 x\n",
+            "ok made [\"\"]\nok made [\"a\\\"b\\\\c\"]\nok made [-170141183460469231731687303715884105728]\nok made ['é']\nbad text\nunsupported\nend dropped [\"\", \"a\\\"b\\\\c\", -170141183460469231731687303715884105728, 'é']\n",
+            7,
         ),
         (
             "put  a #6 1\n put a #6 1\nput a #6 1\r\nput a  #6 1\nPut a #6 1\n",
@@ -115,6 +125,89 @@ fn each_script_has_its_answers(rt: HostRuntime) -> Result<(), Fail> {
         );
         assert_eq!(rt; outcome.report, report(Status::Ok, lines), "at {script:?}");
         assert_eq!(rt; outcome.cells, 0, "at {script:?}");
+    }
+    Ok(())
+}
+
+#[test]
+fn each_kind_takes_its_texts_and_no_others(rt: HostRuntime) -> Result<(), Fail> {
+    for (script, answers) in [
+        (
+            "put a #1 true\nput b #1 false\nput c #1 yes\nput c #1 True\nput c #1 true \nput c #1 1\nput c #1 \n",
+            "ok made [true]\nok made [false]\nbad text\nbad text\nbad text\nbad text\nbad text\nend dropped [true, false]\n",
+        ),
+        (
+            "put a #2 \0\nput b #2 \x01\nput c #2 \x1f\nput d #2  \nput e #2 ~\nput f #2 \x7f\nput g #2 \u{80}\nput h #2 \u{10ffff}\nput i #2 \nput i #2 ab\nput i #2 e\u{301}\n",
+            "ok made ['\\0']\nok made ['\\u{1}']\nok made ['\\u{1f}']\nok made [' ']\nok made ['~']\nok made ['\\u{7f}']\nok made ['\u{80}']\nok made ['\u{10ffff}']\nbad text\nbad text\nbad text\nend dropped ['\\0', '\\u{1}', '\\u{1f}', ' ', '~', '\\u{7f}', '\u{80}', '\u{10ffff}']\n",
+        ),
+        (
+            "put a #2 \t\nput b #2 \r\nput c #2 \\\nput d #2 '\nput e #2 \"\n",
+            "ok made ['\\t']\nok made ['\\r']\nok made ['\\\\']\nok made ['\\'']\nok made ['\"']\nend dropped ['\\t', '\\r', '\\\\', '\\'', '\"']\n",
+        ),
+        (
+            "put a #3 \nput b #3  \nput c #3 \t\r\0\\\"\nput d #3 'é\x0b\x7f\n",
+            "ok made [\"\"]\nok made [\" \"]\nok made [\"\\t\\r\\0\\\\\\\"\"]\nok made [\"'é\\u{b}\\u{7f}\"]\nend dropped [\"\", \" \", \"\\t\\r\\0\\\\\\\"\", \"'é\\u{b}\\u{7f}\"]\n",
+        ),
+        (
+            "put a #4 0\nput b #4 255\nput c #4 256\nput c #4 -0\n",
+            "ok made [0]\nok made [255]\nbad text\nbad text\nend dropped [0, 255]\n",
+        ),
+        (
+            "put a #5 0\nput b #5 65535\nput c #5 65536\nput c #5 -1\n",
+            "ok made [0]\nok made [65535]\nbad text\nbad text\nend dropped [0, 65535]\n",
+        ),
+        (
+            "put a #6 0\nput b #6 4294967295\nput c #6 4294967296\nput c #6 -0\n",
+            "ok made [0]\nok made [4294967295]\nbad text\nbad text\nend dropped [0, 4294967295]\n",
+        ),
+        (
+            "put a #7 0\nput b #7 18446744073709551615\nput c #7 18446744073709551616\nput c #7 -1\n",
+            "ok made [0]\nok made [18446744073709551615]\nbad text\nbad text\nend dropped [0, 18446744073709551615]\n",
+        ),
+        (
+            "put a #8 0\nput b #8 340282366920938463463374607431768211455\nput c #8 340282366920938463463374607431768211456\nput c #8 -0\n",
+            "ok made [0]\nok made [340282366920938463463374607431768211455]\nbad text\nbad text\nend dropped [0, 340282366920938463463374607431768211455]\n",
+        ),
+        (
+            "put a #9 0\nput b #9 18446744073709551615\nput c #9 18446744073709551616\nput c #9 -1\n",
+            "ok made [0]\nok made [18446744073709551615]\nbad text\nbad text\nend dropped [0, 18446744073709551615]\n",
+        ),
+        (
+            "put a #10 127\nput b #10 -128\nput c #10 128\nput c #10 -129\n",
+            "ok made [127]\nok made [-128]\nbad text\nbad text\nend dropped [127, -128]\n",
+        ),
+        (
+            "put a #11 32767\nput b #11 -32768\nput c #11 32768\nput c #11 -32769\n",
+            "ok made [32767]\nok made [-32768]\nbad text\nbad text\nend dropped [32767, -32768]\n",
+        ),
+        (
+            "put a #12 2147483647\nput b #12 -2147483648\nput c #12 2147483648\nput c #12 -2147483649\n",
+            "ok made [2147483647]\nok made [-2147483648]\nbad text\nbad text\nend dropped [2147483647, -2147483648]\n",
+        ),
+        (
+            "put a #13 9223372036854775807\nput b #13 -9223372036854775808\nput c #13 9223372036854775808\nput c #13 -9223372036854775809\n",
+            "ok made [9223372036854775807]\nok made [-9223372036854775808]\nbad text\nbad text\nend dropped [9223372036854775807, -9223372036854775808]\n",
+        ),
+        (
+            "put a #14 170141183460469231731687303715884105727\nput b #14 -170141183460469231731687303715884105728\nput c #14 170141183460469231731687303715884105728\nput c #14 -170141183460469231731687303715884105729\n",
+            "ok made [170141183460469231731687303715884105727]\nok made [-170141183460469231731687303715884105728]\nbad text\nbad text\nend dropped [170141183460469231731687303715884105727, -170141183460469231731687303715884105728]\n",
+        ),
+        (
+            "put a #15 9223372036854775807\nput b #15 -9223372036854775808\nput c #15 9223372036854775808\nput c #15 -9223372036854775809\n",
+            "ok made [9223372036854775807]\nok made [-9223372036854775808]\nbad text\nbad text\nend dropped [9223372036854775807, -9223372036854775808]\n",
+        ),
+        (
+            "put a #10 +0\nput b #10 -0\nput c #10 -007\nput d #10 \nput d #10 +\nput d #10 -\nput d #10 +-1\nput d #10 --1\nput d #10 1 \nput d #10 1.0\nput d #10 0x1\nput d #10 \u{663}\n",
+            "ok made [0]\nok made [0]\nok made [-7]\nbad text\nbad text\nbad text\nbad text\nbad text\nbad text\nbad text\nbad text\nbad text\nend dropped [0, 0, -7]\n",
+        ),
+    ] {
+        let outcome = run_script(rt.alloc(), script.as_bytes(), all_well(4096))?;
+        assert_eq!(rt;
+            outcome.written.as_slice(),
+            answers.as_bytes(),
+            "at {script:?}"
+        );
+        assert_eq!(rt; outcome.report.status, Status::Ok, "at {script:?}");
     }
     Ok(())
 }
