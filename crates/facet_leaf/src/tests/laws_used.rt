@@ -1,5 +1,5 @@
 //! What a user of leaves concludes by their laws alone. Each function is refused without the laws that its
-//! first line names.
+//! first line names, save `order_reversed` and `order_equal`: these follow from the laws of the partial order.
 
 ghost use Rattle.std.specs.Prelude.{◌≡◌, IsTrue, IfOk, IfErr, IfSome, IsSome, true, false, Some};
 ghost use Rattle.facet_leaf.specs.HashWrite.{fed_all};
