@@ -1,5 +1,6 @@
 -- Steps that proofs about blocks take.
 use Rattle.std.proofs.Common.{◌≡◌, ℕ, zero, suc, List, [], ◌∷◌, slice_get, slice_set, unwrap_or, Option, None, refl, ap, sym}
+use Rattle.std.proofs.lemmas.List.{set-set}
 use Rattle.facet_block.specs.Block.{items_of, item_at, with_item}
 use Rattle.facet_block.specs.declared.block.Item.{Item}
 use Rattle.facet_block.specs.declared.block.Block.{Block}
@@ -12,3 +13,7 @@ set-back (x ∷ xs) (suc at) o e = ap (λ t. x ∷ t) (set-back xs at o e)
 -- what is put at an empty place and taken from it leaves the block as it was
 pub with_item-back : {X : Type 0} (b : Block X) (at : ℕ) (o : Option (Item X)) → item_at b at ≡ None → with_item (with_item b at o) at None ≡ b
 with_item-back b at o e = ap (λ xs. record b { items = xs }) (set-back (items_of b) at o e)
+
+-- what is put twice at a place is what was put last
+pub with_item_twice : {X : Type 0} (b : Block X) (at : ℕ) (o p : Option (Item X)) → with_item (with_item b at o) at p ≡ with_item b at p
+with_item_twice b at o p = ap (λ xs. record b { items = xs }) (set-set (items_of b) at o p)

@@ -1,7 +1,11 @@
--- Blocks and sequences as plain data. Layers above read them by these words alone, and define by cases on an item
--- with the patterns `Leaf x`, `Tag n` and `Sequence s` of `declared.block.Item`, ended by `_`.
-use Rattle.std.specs.Prelude.{ℕ, List, Option, None, Some, length, replicate, slice_get, slice_set, unwrap_or}
+-- Blocks and sequences as plain data: a block is a finite map from offsets in bytes to items. Layers above read them by
+-- these words alone, and define by cases on an item with the patterns `Leaf x`, `Tag n` and `Sequence s` of
+-- `declared.block.Item`, ended by `_`.
+use Rattle.std.specs.Prelude.{ℕ, ◌+◌, List, ◌++◌, Option, None, Some, length, replicate, slice_get, slice_set, take, drop, unwrap_or}
+use Rattle.std.specs.List.{slice_rotate_right}
 use Rattle.facet_block.specs.declared.block.Item.{Item, Leaf, Tag, Sequence}
+use Rattle.facet_block.specs.declared.block.ItemKind.{ItemKind}
+use Rattle.facet_block.specs.declared.block.ItemKind.TheVariants as kind
 use Rattle.facet_block.specs.declared.block.Block.{Block}
 use Rattle.facet_block.specs.declared.block.Seq.{Seq, out-Seq, roll-Seq}
 
@@ -17,6 +21,17 @@ size_of b = length (items_of b)
 abbrev pub item_at : {X : Type 0} → Block X → ℕ → Option (Item X)
 item_at b at = unwrap_or (slice_get (items_of b) at) None
 
+-- which kind of item it is, and Nothing where there is none
+abbrev pub item_kind : {X : Type 0} → Option (Item X) → ItemKind
+item_kind (Some (Leaf x)) = kind.Leaf
+item_kind (Some (Tag n)) = kind.Tag
+item_kind (Some (Sequence s)) = kind.Sequence
+item_kind _ = kind.Nothing
+
+-- which kind of item lies at an offset
+abbrev pub item_kind_at : {X : Type 0} → Block X → ℕ → ItemKind
+item_kind_at b at = item_kind (item_at b at)
+
 -- a block of this size with no item
 abbrev pub empty_block : {X : Type 0} → ℕ → Block X
 empty_block size = record { items = replicate size None }
@@ -25,21 +40,49 @@ empty_block size = record { items = replicate size None }
 abbrev pub with_item : {X : Type 0} → Block X → ℕ → Option (Item X) → Block X
 with_item b at o = record b { items = slice_set b.items at o }
 
+-- the block with the first so many of these from an offset on, in place of what lay there
+abbrev pub with_items : {X : Type 0} → Block X → ℕ → List (Option (Item X)) → ℕ → Block X
+with_items b at os count = record b { items = take at b.items ++ take count os ++ drop (at + count) b.items }
+
+-- the block once what lay in so many bytes of another, from an offset of that on, was moved to the offset `at`
+abbrev pub moved_in : {X : Type 0} → Block X → ℕ → Block X → ℕ → ℕ → Block X
+moved_in b at source from size = with_items b at (drop from (items_of source)) size
+
+-- the block once what lay in so many bytes from an offset on was moved out
+abbrev pub moved_out : {X : Type 0} → Block X → ℕ → ℕ → Block X
+moved_out b from size = with_items b from (replicate size None) size
+
 -- the filled blocks of a sequence, in order
 abbrev pub filled_of : {X : Type 0} → Seq X → List (Block X)
-filled_of {X} s = (out-Seq X s).filled
+filled_of {X} s = (out-Seq X s).blocks.0
 
--- the spare blocks of a sequence
+-- the spare blocks of a sequence, in order
 abbrev pub spare_of : {X : Type 0} → Seq X → List (Block X)
-spare_of {X} s = (out-Seq X s).spare
+spare_of {X} s = (out-Seq X s).blocks.1
 
--- the size in bytes of each block of a sequence
+-- the size in bytes of the blocks that a sequence makes
 abbrev pub element_size_of : {X : Type 0} → Seq X → ℕ
 element_size_of {X} s = (out-Seq X s).element_size
 
 -- the sequence of this size of elements, with these filled and these spare blocks
 abbrev pub make_seq : {X : Type 0} → ℕ → List (Block X) → List (Block X) → Seq X
-make_seq {X} n fs ss = roll-Seq X (record { element_size = n; filled = fs; spare = ss })
+make_seq {X} n fs ss = roll-Seq X (record { element_size = n; blocks = (fs, ss) })
+
+-- the sequence with other filled blocks
+abbrev pub with_filled : {X : Type 0} → Seq X → List (Block X) → Seq X
+with_filled s fs = make_seq (element_size_of s) fs (spare_of s)
+
+-- the sequence with other spare blocks
+abbrev pub with_spare : {X : Type 0} → Seq X → List (Block X) → Seq X
+with_spare s ss = make_seq (element_size_of s) (filled_of s) ss
+
+-- the sequence with so many new blocks behind its spare ones
+abbrev pub with_new_spare : {X : Type 0} → Seq X → ℕ → Seq X
+with_new_spare s count = with_spare s (spare_of s ++ replicate count (empty_block (element_size_of s)))
+
+-- the list with its last item moved to place i, and those from there on each one place further
+abbrev pub last_moved_to : {A : Type 0} → ℕ → List A → List A
+last_moved_to i xs = take i xs ++ slice_rotate_right (drop i xs) 1
 
 -- the leaf, where there is one
 abbrev pub leaf_of : {X : Type 0} → Option (Item X) → Option X
@@ -55,13 +98,3 @@ tag_of _ = None
 abbrev pub sequence_of : {X : Type 0} → Option (Item X) → Option (Seq X)
 sequence_of (Some (Sequence s)) = Some s
 sequence_of _ = None
-
--- the item is a leaf
-abbrev pub IsLeaf : {X : Type 0} → Item X → Type 0
-IsLeaf (Leaf x) = Unit {0}
-IsLeaf _ = ⊥
-
--- an offset that is below the size holds a leaf
-abbrev pub HoldsLeaf : {X : Type 0} → Option (Option (Item X)) → Type 0
-HoldsLeaf (Some (Some (Leaf x))) = Unit {0}
-HoldsLeaf _ = ⊥

@@ -4,5 +4,6 @@ pub mod BlockLends
 pub mod LeafLog
 pub mod PlainLends
 pub mod PtrLends
-pub mod Uninit
 pub mod Span
+pub mod SplitLends
+pub mod Uninit

@@ -1,10 +1,13 @@
--- What a pointer's block ends as, once the loan of the leaf that it points to is over.
+-- What a pointer's block ends as, once a loan that the pointer gave is over.
 use Rattle.std.specs.Prelude.{[], Some}
 use Rattle.std.specs.Borrow.{Lends, MutBor, Fml, RattleType}
-use Rattle.facet_block.specs.declared.block.Item.{Leaf}
+use Rattle.facet_block.specs.declared.block.Item.{Leaf, Sequence}
 use Rattle.facet_block.specs.declared.block.Block.{Block}
-use Rattle.facet_block.specs.declared.pointer.PtrMut.{PtrMut}
-use Rattle.facet_block.specs.contracts.pointer.PtrMut as ptr
+use Rattle.facet_block.specs.declared.block.Seq.{Seq}
+use Rattle.facet_block.specs.declared.ptr_mut.PtrMut.{PtrMut}
+use Rattle.facet_block.specs.contracts.block.Block as block
+use Rattle.facet_block.specs.contracts.block.Seq as seq
+use Rattle.facet_block.specs.contracts.ptr_mut.PtrMut as ptr
 use Rattle.facet_block.specs.Block.{with_item}
 use denote.Ref.{NamedLft}
 use mir.Syntax.{named}
@@ -17,7 +20,17 @@ first_lifetime = record { mir = named 0; lft = [] }
 abbrev pub with_block : {X : Type 0} → PtrMut X → Block X → PtrMut X
 with_block p b = record p { block = record (p.block) { now = b } }
 
--- the leaf at the place is lent, and the pointer's block ends with the leaf that was left there
-abbrev pub LendsPointedLeaf : (T : RattleType) → MutBor (PtrMut T.Denot) → MutBor T.Denot → Fml
-LendsPointedLeaf T s r =
-    Lends (ptr.the_row first_lifetime T) T s r (λ w. with_block s.now (with_item s.now.block.now s.now.offset (Some (Leaf w))))
+module _ (T : RattleType) where
+  -- the pointer's block is lent, and it ends as what was left
+  abbrev pub LendsPointedBlock : MutBor (PtrMut T.Denot) → MutBor (Block T.Denot) → Fml
+  LendsPointedBlock s r = Lends (ptr.the_row first_lifetime T) (block.the_row T) s r (λ w. with_block s.now w)
+
+  -- the leaf at the place is lent, and the pointer's block ends with the leaf that was left there
+  abbrev pub LendsPointedLeaf : MutBor (PtrMut T.Denot) → MutBor T.Denot → Fml
+  LendsPointedLeaf s r =
+      Lends (ptr.the_row first_lifetime T) T s r (λ w. with_block s.now (with_item s.now.block.now s.now.offset (Some (Leaf w))))
+
+  -- the sequence at the place is lent, and the pointer's block ends with the sequence that was left there
+  abbrev pub LendsPointedSequence : MutBor (PtrMut T.Denot) → MutBor (Seq T.Denot) → Fml
+  LendsPointedSequence s r =
+      Lends (ptr.the_row first_lifetime T) (seq.the_row T) s r (λ w. with_block s.now (with_item s.now.block.now s.now.offset (Some (Sequence w))))

@@ -1,7 +1,7 @@
 -- A pointer to a place that is to be filled is always at a place.
-use Rattle.facet_block.specs.declared.pointer.PtrMut.{PtrMut}
-use Rattle.facet_block.specs.declared.uninit.PtrUninit.{PtrUninit}
-use Rattle.facet_block.specs.declared.uninit.PtrUninit.TheVariants.{At, Not}
+use Rattle.facet_block.specs.declared.ptr_mut.PtrMut.{PtrMut}
+use Rattle.facet_block.specs.declared.ptr_uninit.PtrUninit.{PtrUninit}
+use Rattle.facet_block.specs.declared.ptr_uninit.PtrUninit.TheVariants.{At, Not}
 
 -- where it points
 abbrev pub place_of : {X : Type 0} → PtrUninit X → PtrMut X

@@ -1,1 +1,2 @@
 pub mod plain_vec
+pub mod split

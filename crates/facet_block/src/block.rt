@@ -1,9 +1,12 @@
-ghost use Rattle.std.specs.Prelude.{◌≡◌, ◌<◌, slice_get, Option, Some, None, IfOk};
+ghost use Rattle.std.specs.Prelude.{◌≡◌, ◌↔◌, ◌+◌, ◌<◌, ◌≤◌, Some, None, IfOk, IsTrue};
 ghost use Rattle.std.specs.Borrow.{sem};
-ghost use Rattle.facet_block.specs.Block.{items_of, size_of, empty_block, with_item, IsLeaf, HoldsLeaf};
-ghost use Rattle.facet_block.specs.BlockLends.{LendsLeaf, LendsLeafAt};
+ghost use Rattle.facet_block.specs.Block.{size_of, item_at, item_kind, item_kind_at, empty_block, with_item, moved_in, moved_out};
+ghost use Rattle.facet_block.specs.BlockLends.{LendsLeaf, LendsSequence, LendsLeafAt, LendsSequenceAt};
+ghost use Rattle.facet_block.specs.Span.{span, IsEmptyIn};
 
 use crate::plain_vec::PlainVec;
+use crate::split::Split;
+use facet_base::Layout;
 use std::alloc::{AllocError, Global};
 
 /// What lies at an offset of a block.
@@ -12,10 +15,19 @@ use std::alloc::{AllocError, Global};
 pub enum Item<L> {
     /// A scalar.
     Leaf(L),
-    /// The number of the variant that an enum has.
+    /// The place of the variant that an enum has.
     Tag(u32),
     /// The blocks of the elements of a list.
     Sequence(Seq<L>),
+}
+
+/// Which kind of item lies at an offset of a block.
+#[derive(Clone, Copy, PartialEq, Eq, Debug)]
+pub enum ItemKind {
+    Nothing,
+    Leaf,
+    Tag,
+    Sequence,
 }
 
 /// Memory for a value: each offset in bytes below its size holds an item or nothing.
@@ -25,23 +37,33 @@ pub struct Block<L> {
     items: PlainVec<Option<Item<L>>>,
 }
 
-/// The elements of a list, each in a block of `element_size` bytes: the filled ones in order, and the spare ones.
+/// Blocks of `elem_size` bytes: the filled ones, in order, and behind them the spare ones.
 #[cycle(blocks)]
 #[derive(Drop)]
 pub struct Seq<L> {
-    element_size: usize,
-    filled: PlainVec<Block<L>>,
-    spare: PlainVec<Block<L>>,
+    pub(crate) element_size: usize,
+    pub(crate) blocks: Split<Block<L>>,
 }
 
 impl<L> Item<L> {
     fn leaf_mut(&mut self) -> &mut L
-        requires { IsLeaf self.old }
+        requires { item_kind (Some self.old) ≡ ItemKind.Leaf }
         ensures* lends { sem 𝓛 (LendsLeaf L.row self.entry result) }
         ensures value { self.old ≡ Item.Leaf result.now }
     {
         match self {
             Item::Leaf(leaf) => leaf,
+            _ => unreachable!(),
+        }
+    }
+
+    fn sequence_mut(&mut self) -> &mut Seq<L>
+        requires { item_kind (Some self.old) ≡ ItemKind.Sequence }
+        ensures* lends { sem 𝓛 (LendsSequence L.row self.entry result) }
+        ensures value { self.old ≡ Item.Sequence result.now }
+    {
+        match self {
+            Item::Sequence(sequence) => sequence,
             _ => unreachable!(),
         }
     }
@@ -59,10 +81,25 @@ impl<L: Drop> Block<L> {
     /// Puts `item` at the offset, and gives back what was there.
     pub(crate) fn exchange(&mut self, at: usize, item: Option<Item<L>>) -> Option<Item<L>>
         requires { at < size_of self.old }
-        ensures gives { slice_get (items_of self.old) at ≡ Some result }
+        ensures gives { result ≡ item_at self.old at }
         ensures block { self.new ≡ with_item self.old at item }
     {
         self.items.replace(at, item)
+    }
+
+    /// Moves what lies in `size` bytes of `source`, from the offset `from` on, to the offset `at`.
+    pub(crate) fn move_items(&mut self, at: usize, source: &mut Block<L>, from: usize, size: usize)
+        requires inside { at + size ≤ size_of self.old }
+        requires source_inside { from + size ≤ size_of source.old }
+        ensures items { self.new ≡ moved_in self.old at source.old from size }
+        ensures source { source.new ≡ moved_out source.old from size }
+    {
+        let _size = self.size();
+        let _source_size = source.size();
+        for i in 0..size {
+            let item = source.exchange(from + i, None);
+            self.exchange(at + i, item);
+        }
     }
 }
 
@@ -74,10 +111,35 @@ impl<L> Block<L> {
         self.items.len()
     }
 
+    /// Whether no item lies in the `len` bytes from the offset on. The range may pass the block.
+    pub fn is_empty_in(&self, off: usize, len: usize) -> bool
+        ensures { IsTrue result ↔ IsEmptyIn self.now (span off len) }
+    {
+        let end = off.saturating_add(len).min(self.items.len());
+        for i in off..end {
+            if let Some(Some(_)) = self.items.get(i) {
+                return false;
+            }
+        }
+        true
+    }
+
+    /// Which kind of item lies at the offset: `Nothing` where none does, and at or above the size.
+    pub fn item_at(&self, off: usize) -> ItemKind
+        ensures { result ≡ item_kind_at self.now off }
+    {
+        match self.items.get(off) {
+            Some(Some(Item::Leaf(_))) => ItemKind::Leaf,
+            Some(Some(Item::Tag(_))) => ItemKind::Tag,
+            Some(Some(Item::Sequence(_))) => ItemKind::Sequence,
+            _ => ItemKind::Nothing,
+        }
+    }
+
     /// The leaf at the offset.
     pub(crate) fn leaf(&self, at: usize) -> &L
-        requires { HoldsLeaf (slice_get (items_of self.now) at) }
-        ensures { slice_get (items_of self.now) at ≡ Some (Some (Item.Leaf result.now)) }
+        requires { item_kind_at self.now at ≡ ItemKind.Leaf }
+        ensures { item_at self.now at ≡ Some (Item.Leaf result.now) }
     {
         match self.items.get(at) {
             Some(Some(Item::Leaf(leaf))) => leaf,
@@ -85,15 +147,63 @@ impl<L> Block<L> {
         }
     }
 
+    /// The tag at the offset.
+    pub(crate) fn tag(&self, at: usize) -> u32
+        requires { item_kind_at self.now at ≡ ItemKind.Tag }
+        ensures { item_at self.now at ≡ Some (Item.Tag result) }
+    {
+        match self.items.get(at) {
+            Some(Some(Item::Tag(tag))) => *tag,
+            _ => unreachable!(),
+        }
+    }
+
+    /// The sequence at the offset.
+    pub(crate) fn sequence(&self, at: usize) -> &Seq<L>
+        requires { item_kind_at self.now at ≡ ItemKind.Sequence }
+        ensures { item_at self.now at ≡ Some (Item.Sequence result.now) }
+    {
+        match self.items.get(at) {
+            Some(Some(Item::Sequence(sequence))) => sequence,
+            _ => unreachable!(),
+        }
+    }
+
     /// Lends the leaf at the offset.
     pub(crate) fn leaf_mut(&mut self, at: usize) -> &mut L
-        requires { HoldsLeaf (slice_get (items_of self.old) at) }
+        requires { item_kind_at self.old at ≡ ItemKind.Leaf }
         ensures* lends { sem 𝓛 (LendsLeafAt L.row self.entry at result) }
-        ensures value { slice_get (items_of self.old) at ≡ Some (Some (Item.Leaf result.now)) }
+        ensures value { item_at self.old at ≡ Some (Item.Leaf result.now) }
     {
         match self.items.get_mut(at) {
             Some(Some(item)) => item.leaf_mut(),
             _ => unreachable!(),
         }
     }
+
+    /// Lends the sequence at the offset.
+    pub(crate) fn sequence_mut(&mut self, at: usize) -> &mut Seq<L>
+        requires { item_kind_at self.old at ≡ ItemKind.Sequence }
+        ensures* lends { sem 𝓛 (LendsSequenceAt L.row self.entry at result) }
+        ensures value { item_at self.old at ≡ Some (Item.Sequence result.now) }
+    {
+        match self.items.get_mut(at) {
+            Some(Some(item)) => item.sequence_mut(),
+            _ => unreachable!(),
+        }
+    }
+}
+
+/// A block with no item, of the layout's size. A refusal comes only for want of memory.
+pub fn alloc_for_layout<L: Drop>(alloc: Global, layout: Layout) -> Result<Block<L>, AllocError>
+    ensures { IfOk result (λ block. block ≡ empty_block layout.size) }
+{
+    Block::new(alloc, layout.size)
+}
+
+/// Gives the memory of a block back. No item lies in it.
+pub fn dealloc_for_layout<L: Drop>(block: Block<L>)
+    requires { IsEmptyIn block (span 0 (size_of block)) }
+{
+    drop(block);
 }

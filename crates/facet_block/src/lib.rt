@@ -6,16 +6,20 @@ mod block;
 mod drop_log;
 mod laws;
 mod plain_vec;
-mod pointer;
+mod ptr_const;
+mod ptr_mut;
+mod ptr_uninit;
+mod seq;
+mod split;
 #[cfg(test)]
 mod tests;
-mod uninit;
 
-pub use block::{Block, Item, Seq};
+pub use block::{Block, Item, ItemKind, Seq, alloc_for_layout, dealloc_for_layout};
 pub use drop_log::DropLog;
 pub use facet_leaf::{
     Conversion, Fnv128, HashProxy, HashSink, Leaf, LeafHook, NoRoom, Recorder, Scalar,
 };
-pub use laws::put_and_read;
-pub use pointer::{PtrConst, PtrMut};
-pub use uninit::{Never, PtrUninit};
+pub use laws::{one_item_is_changed, put_and_read, ranges_are_moved, what_is_apart_is_kept};
+pub use ptr_const::PtrConst;
+pub use ptr_mut::PtrMut;
+pub use ptr_uninit::{Never, PtrUninit};

@@ -1,5 +1,5 @@
 -- A walk that ends the values of cells, one after another.
-use Rattle.std.proofs.Common.{◌≡◌, ℕ, zero, suc, ◌+◌, ◌<◌, List, [], ◌∷◌, ◌++◌, length, drop, slice_get, slice_set, None, Some, All, refl, sym, ap, ◌∙◌, subst, arith, append_assoc}
+use Rattle.std.proofs.Common.{◌≡◌, ℕ, zero, suc, ◌+◌, List, [], ◌∷◌, ◌++◌, drop, slice_get, slice_set, Some, refl, sym, ap, ◌∙◌, arith, append_assoc}
 use Rattle.std.proofs.lemmas.List.{drop-drop, drop-set-lt, drop_more}
 use Rattle.std.proofs.lemmas.Option.{slice_get_within, get_or_from_slice_get}
 use Rattle.facet_shapes.specs.Registry.{Registry}
@@ -16,10 +16,6 @@ slice_get-drop (x ∷ xs) (suc i) = slice_get-drop xs i
 pub same_at : {A : Type 0} (xs ys : List A) (i : ℕ) (x : A) → drop i xs ≡ drop i ys → Some x ≡ slice_get xs i → slice_get ys i ≡ Some x
 same_at xs ys i x rest here = slice_get-drop ys i ∙ ap (λ zs. slice_get zs 0) (sym rest) ∙ sym (slice_get-drop xs i) ∙ sym here
 
--- what holds of each element holds of the one at a place
-pub All-at : {A : Type 0} (P : A → Type 0) (xs : List A) (i : ℕ) (x : A) → All P xs → slice_get xs i ≡ Some x → P x
-All-at P xs i x all here = subst P (get_or_from_slice_get xs i x x here) (all i x (slice_get_within xs i x here))
-
 -- the lists are still one behind that place, whatever is put there
 pub same_behind : {A : Type 0} (xs ys : List A) (i : ℕ) (x : A) → drop i xs ≡ drop i ys → drop (i + 1) (slice_set xs i x) ≡ drop (i + 1) ys
 same_behind xs ys i x rest =
@@ -34,8 +30,3 @@ next_stored registry cells i cell before now all here rest grown =
     ∙ append_assoc before (stored_in registry cell) (stored_in_all registry (drop (i + 1) cells))
     ∙ ap (λ cs. before ++ stored_in_all registry cs) (sym step)
     ∙ rest
-
-pub some_there : {A : Type 0} (xs : List A) (i : ℕ) → i < length xs → None ≡ slice_get xs i → ⊥
-some_there [] i below none = omega arith
-some_there (x ∷ xs) zero below none = cc
-some_there (x ∷ xs) (suc i) below none = some_there xs i (omega arith) none

@@ -1,12 +1,13 @@
 -- What a block with a leaf at its start reads as, and what a cell stores that reads as a value.
-use Rattle.std.proofs.Common.{◌≡◌, ℕ, zero, suc, ◌+◌, ◌<◌, ◌≤◌, ◌⊎◌, List, [], ◌∷◌, length, replicate, slice_get, unwrap_or, Option, None, Some, All, refl, sym, ap, ◌∙◌, subst, arith, zero-add}
-use Rattle.std.proofs.Math.ListN.{length-set, length-replicate}
+use Rattle.std.proofs.Common.{◌≡◌, ℕ, zero, suc, ◌+◌, ◌<◌, ◌≤◌, ◌⊎◌, List, [], ◌∷◌, length, slice_get, Option, None, Some, All, refl, sym, ap, ◌∙◌, subst, arith, zero-add}
 use Rattle.std.proofs.lemmas.List.Elements.{All-head}
 use Rattle.facet_base.specs.declared.scalar_type.ScalarType.{ScalarType}
 use Rattle.facet_leaf.specs.LeafModel.{LeafModel}
 use Rattle.facet_block.specs.declared.block.Item.{Item, Leaf, Tag, Sequence}
 use Rattle.facet_block.specs.declared.block.Block.{Block}
-use Rattle.facet_block.specs.Block.{items_of, item_at, size_of, leaf_of, empty_block, with_item, HoldsLeaf}
+use Rattle.facet_block.specs.Block.{item_at, item_kind, size_of, leaf_of, empty_block, with_item}
+use Rattle.facet_block.specs.declared.block.ItemKind.TheVariants as item
+use Rattle.facet_block.proofs.Ranges.{size-empty, item-empty, size-with_item, item-there, item-elsewhere}
 use Rattle.facet_block.specs.Span.{IsBeside}
 use Rattle.facet_shapes.specs.declared.shape.Shape.{Shape}
 use Rattle.facet_shapes.specs.Registry.{Registry, kind_of_found, kind_at, size_at}
@@ -28,23 +29,15 @@ leaf_block size x = with_item (empty_block size) 0 (Some (Leaf x))
 abbrev start_of : {L : Type 0} → ℕ → Block L → Place L
 start_of s block = record { shape = s; block = block; offset = 0 }
 
-same_in : {A : Type 0} (size i : ℕ) (x : A) → unwrap_or (slice_get (replicate size x) i) x ≡ x
-same_in zero i x = refl
-same_in (suc size) zero x = refl
-same_in (suc size) (suc i) x = same_in size i x
-
 module _ {L : Type 0} (x : L) where
   first_item : (size : ℕ) → 0 < size → item_at (leaf_block size x) 0 ≡ Some (Leaf x)
-  first_item zero some = absurd (omega arith)
-  first_item (suc size) some = refl
+  first_item size some = item-there (empty_block size) 0 (Some (Leaf x)) (omega (arith, size-empty L size))
 
   other_items : (size i : ℕ) → 0 < i → item_at (leaf_block size x) i ≡ None
-  other_items size zero some = absurd (omega arith)
-  other_items zero (suc i) some = refl
-  other_items (suc size) (suc i) some = same_in size i None
+  other_items size i some = item-elsewhere (empty_block size) 0 (Some (Leaf x)) i (omega arith) ∙ item-empty L size i
 
   size_kept : (size : ℕ) → size_of (leaf_block size x) ≡ size
-  size_kept size = length-set (replicate size None) 0 (Some (Leaf x)) ∙ length-replicate size None
+  size_kept size = size-with_item (empty_block size) 0 (Some (Leaf x)) ∙ size-empty L size
 
 behind_first : (i : ℕ) → (i < 0) ⊎ (0 + 1 ≤ i) → 0 < i
 behind_first i beside = omega arith
@@ -92,12 +85,11 @@ module _ {L : Type 0} where
   leaf_found : (of : ValueKind) (k : ScalarType) (found : Option (Item L)) → of ≡ kind.Leaf k → (seen_kind of found ≡ no_value → ⊥) → leaf_of found ≡ None → ⊥
   leaf_found of k found same some gone = some (rw (same, gone) refl)
 
-  holds_leaf : (at : Option (Option (Item L))) → (leaf_of (unwrap_or at None) ≡ None → ⊥) → HoldsLeaf at
+  holds_leaf : (found : Option (Item L)) → (leaf_of found ≡ None → ⊥) → item_kind found ≡ item.Leaf
   holds_leaf None some = absurd (some refl)
-  holds_leaf (Some None) some = absurd (some refl)
-  holds_leaf (Some (Some (Leaf y))) some = tt
-  holds_leaf (Some (Some (Tag n))) some = absurd (some refl)
-  holds_leaf (Some (Some (Sequence q))) some = absurd (some refl)
+  holds_leaf (Some (Leaf y)) some = refl
+  holds_leaf (Some (Tag n)) some = absurd (some refl)
+  holds_leaf (Some (Sequence q)) some = absurd (some refl)
 
   known_shape : (shapes : List Shape) (s : ℕ) (found : Option (Item L)) → (seen_kind (kind_of_found (slice_get shapes s)) found ≡ no_value → ⊥) → s < length shapes
   known_shape [] s found some = absurd (some refl)
@@ -129,5 +121,5 @@ module _ {L : Type 0} where
         let some = seen_some cell.shape.0 cell.block v reads in
         record {
           known = known_shape registry.shapes cell.shape.0 (item_at cell.block 0) some;
-          filled = λ k of. holds_leaf (slice_get (items_of cell.block) 0) (leaf_found (kind_at registry cell.shape.0) k (item_at cell.block 0) of some);
+          filled = λ k of. holds_leaf (item_at cell.block 0) (leaf_found (kind_at registry cell.shape.0) k (item_at cell.block 0) of some);
         }

@@ -1,8 +1,9 @@
 -- The leaves that a cell's block holds.
-use Rattle.std.specs.Prelude.{◌≡◌, ◌<◌, List, [], ◌∷◌, Option, Some, length, slice_get}
+use Rattle.std.specs.Prelude.{◌≡◌, ◌<◌, List, [], ◌∷◌, Option, Some, length}
 use Rattle.std.specs.List.{flat_map}
 use Rattle.facet_base.specs.declared.scalar_type.ScalarType.{ScalarType}
-use Rattle.facet_block.specs.Block.{items_of, item_at, leaf_of, HoldsLeaf}
+use Rattle.facet_block.specs.Block.{item_at, item_kind_at, leaf_of}
+use Rattle.facet_block.specs.declared.block.ItemKind.TheVariants as item
 use Rattle.facet_shapes.specs.Registry.{Registry, kind_at}
 use Rattle.facet_shapes.specs.declared.value_kind.ValueKind.{ValueKind}
 use Rattle.facet_shapes.specs.declared.value_kind.ValueKind.TheVariants as kind
@@ -24,4 +25,4 @@ stored_in_all registry cells = flat_map (stored_in registry) cells
 -- the cell's shape is in the registry, and where its values are leaves, a leaf stands at the start of the block
 pub record IsFilled {L : Type 0} (registry : Registry) (cell : Cell L) : Type 0 where
   pub known : cell.shape.0 < length registry.shapes
-  pub filled : (k : ScalarType) → kind_at registry cell.shape.0 ≡ kind.Leaf k → HoldsLeaf (slice_get (items_of cell.block) 0)
+  pub filled : (k : ScalarType) → kind_at registry cell.shape.0 ≡ kind.Leaf k → item_kind_at cell.block 0 ≡ item.Leaf
