@@ -1,1 +1,4 @@
+pub mod Hashes
+mod BitSets
+mod Names
 pub mod Numerals

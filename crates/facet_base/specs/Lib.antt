@@ -1,5 +1,12 @@
+pub mod Conversion
+pub mod DeclId
+pub mod Fnv
+pub mod FlagTables
+pub mod Flags
 pub mod Kept
 pub mod Lending
 pub mod Numeral
 pub mod Output
+pub mod ScalarType
 pub mod Tail
+pub mod Variance

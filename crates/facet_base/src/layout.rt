@@ -1,3 +1,7 @@
+ghost use Rattle.std.specs.Prelude.{◌≡◌, MatchResult};
+
+use std::fmt;
+
 /// How much room a value takes, in bytes, and what its offset is a multiple of.
 #[derive(Clone, Copy, PartialEq, Eq, Hash, Debug)]
 pub struct Layout {
@@ -8,3 +12,40 @@ pub struct Layout {
 /// The number of a shape in its registry.
 #[derive(Clone, Copy, PartialEq, Eq, PartialOrd, Ord, Hash, Debug)]
 pub struct ShapeId(pub u32);
+
+/// The number of a hook.
+#[derive(Clone, Copy, PartialEq, Eq, PartialOrd, Ord, Hash, Debug)]
+pub struct HookId(pub u32);
+
+/// The layout that all values of a type have, or that they have none in common.
+#[derive(Clone, Copy, PartialEq, Eq, Hash, Debug)]
+pub enum ShapeLayout {
+    Sized(Layout),
+    Unsized,
+}
+
+impl ShapeLayout {
+    /// The layout of a sized type. It is refused exactly for an unsized one.
+    pub fn sized_layout(self) -> Result<Layout, UnsizedError>
+        ensures { MatchResult result (λ layout. self ≡ ShapeLayout.Sized layout) (λ _. self ≡ ShapeLayout.Unsized) }
+    {
+        match self {
+            ShapeLayout::Sized(layout) => Ok(layout),
+            ShapeLayout::Unsized => Err(UnsizedError),
+        }
+    }
+}
+
+/// A type has no layout that all its values share.
+#[derive(Clone, Copy, PartialEq, Eq, PartialOrd, Ord, Hash, Debug)]
+pub struct UnsizedError;
+
+impl fmt::Display for UnsizedError {
+    ghost use Rattle.std.specs.Prelude.{Some, codes};
+
+    ghost output = { λ _. Some (codes "Not a Sized type") };
+
+    fn fmt<W: fmt::Write>(&self, f: &mut fmt::Formatter<W>) -> fmt::Result {
+        f.write_str("Not a Sized type")
+    }
+}

@@ -1,3 +1,8 @@
+ghost use Rattle.std.specs.Prelude.{◌≡◌};
+ghost use Rattle.facet_base.specs.ScalarType.{identifier_of};
+
+use std::fmt;
+
 /// The kinds of scalars. A leaf is of one of them, but of neither `Unit`, whose one value takes no memory,
 /// nor `Str`, which has no values.
 #[derive(Clone, Copy, PartialEq, Eq, PartialOrd, Ord, Hash, Debug)]
@@ -22,7 +27,44 @@ pub enum ScalarType {
 }
 
 /// A text is not one of a scalar of this kind.
-#[derive(Clone, Copy, PartialEq, Eq, Debug)]
+#[derive(Debug, Drop)]
 pub struct ParseError {
     pub kind: ScalarType,
+}
+
+impl fmt::Display for ParseError {
+    ghost use Rattle.std.specs.Prelude.{Some};
+    ghost use Rattle.facet_base.specs.ScalarType.{parse_error_text};
+
+    ghost output = { λ error. Some (parse_error_text error) };
+
+    fn fmt<W: fmt::Write>(&self, f: &mut fmt::Formatter<W>) -> fmt::Result {
+        f.write_str("failed to parse ")?;
+        f.write_str(identifier(self.kind))
+    }
+}
+
+// The identifier of the type whose values are of a kind.
+fn identifier(kind: ScalarType) -> &'static str
+    ensures { result.now ≡ identifier_of kind }
+{
+    match kind {
+        ScalarType::Unit => "()",
+        ScalarType::Bool => "bool",
+        ScalarType::Char => "char",
+        ScalarType::Str => "str",
+        ScalarType::String => "String",
+        ScalarType::U8 => "u8",
+        ScalarType::U16 => "u16",
+        ScalarType::U32 => "u32",
+        ScalarType::U64 => "u64",
+        ScalarType::U128 => "u128",
+        ScalarType::USize => "usize",
+        ScalarType::I8 => "i8",
+        ScalarType::I16 => "i16",
+        ScalarType::I32 => "i32",
+        ScalarType::I64 => "i64",
+        ScalarType::I128 => "i128",
+        ScalarType::ISize => "isize",
+    }
 }

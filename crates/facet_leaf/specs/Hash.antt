@@ -1,5 +1,5 @@
 -- What the shipped hash sinks make of their writes.
-use Rattle.std.specs.Prelude.{ℕ, ◌+◌, ◌-◌, ◌*◌, ◌%◌, ◌^◌, List, ◌++◌, length, take, fold, min, bit_xor}
+use Rattle.std.specs.Prelude.{ℕ, ◌+◌, ◌-◌, ◌^◌, List, ◌++◌, length, take, min}
 use Rattle.std.specs.Int.{w8, w16, w32, w64, w128, to_le_bytes, cast_unsigned}
 use Rattle.facet_leaf.specs.HashWrite.{HashWrite, bytes as of_bytes, of_u8, of_u16, of_u32, of_u64, of_u128, of_usize, of_i8, of_i16, of_i32, of_i64, of_i128, of_isize}
 
@@ -18,18 +18,6 @@ bytes_written (of_i32 z) = to_le_bytes w32 (cast_unsigned w32 z)
 bytes_written (of_i64 z) = to_le_bytes w64 (cast_unsigned w64 z)
 bytes_written (of_i128 z) = to_le_bytes w128 (cast_unsigned w128 z)
 bytes_written (of_isize z) = to_le_bytes w64 (cast_unsigned w64 z)
-
--- the state of 128-bit FNV-1a before the first byte
-abbrev pub fnv_start : ℕ
-fnv_start = 144066263297769815596495629667062367629
-
--- one byte more: it is xored into the lowest byte, and the whole is multiplied by the prime, modulo 2^128
-abbrev pub fnv_byte : ℕ → ℕ → ℕ
-fnv_byte state byte = (bit_xor state byte * 309485009821345068724781371) % 2 ^ 128
-
--- the state after some bytes, in order
-unfoldable pub fnv : ℕ → List ℕ → ℕ
-fnv state bytes = fold fnv_byte state bytes
 
 -- what a recorder holds: the bytes that it kept, how many it keeps at most, and how many were written
 pub record Recording : Type 0 where

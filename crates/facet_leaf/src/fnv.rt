@@ -1,12 +1,9 @@
 ghost use Rattle.std.specs.Prelude.{◌≡◌};
-ghost use Rattle.facet_leaf.specs.Hash.{fnv, fnv_start};
+ghost use Rattle.facet_base.specs.Fnv.{fnv_start};
 
 use crate::hash_sink::HashSink;
+use facet_base::{FNV_START, fnv1a_128};
 use std::marker::Model;
-
-const START: u128 = 144066263297769815596495629667062367629;
-
-const PRIME: u128 = 309485009821345068724781371;
 
 /// A hash sink that is 128-bit FNV-1a over the bytes of its writes. Contracts see its state as a number.
 #[derive(Drop)]
@@ -27,7 +24,7 @@ impl Fnv128 {
     pub fn new() -> Fnv128
         ensures { result ≡ fnv_start }
     {
-        Fnv128 { state: START }
+        Fnv128 { state: FNV_START }
     }
 
     /// The hash of all bytes that were written.
@@ -40,14 +37,15 @@ impl Fnv128 {
 
 impl HashSink for Fnv128 {
     ghost use Rattle.std.specs.Prelude.{◌%◌, ◌^◌};
-    ghost use Rattle.facet_leaf.specs.Hash.{fnv, bytes_written};
+    ghost use Rattle.facet_base.specs.Fnv.{fnv};
+    ghost use Rattle.facet_leaf.specs.Hash.{bytes_written};
 
     ghost fed = { λ state w. fnv state (bytes_written w) };
 
     ghost finished = { λ state. state % 2 ^ 64 };
 
     fn write(&mut self, bytes: &[u8]) {
-        self.state = after_bytes(self.state, bytes);
+        self.state = fnv1a_128(self.state, bytes);
     }
 
     fn write_u8(&mut self, i: u8) {
@@ -101,15 +99,4 @@ impl HashSink for Fnv128 {
     fn finish(&self) -> u64 {
         (self.state % 0x1_0000_0000_0000_0000) as u64
     }
-}
-
-// The state after some bytes more.
-fn after_bytes(start: u128, bytes: &[u8]) -> u128
-    ensures { result ≡ fnv start bytes.now }
-{
-    let mut state = start;
-    for byte in bytes {
-        state = (state ^ u128::from(*byte)).wrapping_mul(PRIME);
-    }
-    state
 }

@@ -1,7 +1,7 @@
 use Rattle.std.proofs.Common.{rules, refl}
 use Rattle.std.proofs.hash.Loops.{byte_more}
-use Rattle.facet_leaf.specs.Hash.{fnv}
-use Rattle.facet_leaf.proofs.fnv.after_bytes.Goals as goal
+use Rattle.facet_base.specs.Fnv.{fnv}
+use Rattle.facet_base.proofs.fnv.fnv1a_128.Goals as goal
 
 pub loop-byte-init : goal.loop-byte-init
 unfolding fnv

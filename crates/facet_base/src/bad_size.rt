@@ -1,0 +1,3 @@
+/// No unsigned number of a tag takes so many bytes.
+#[derive(Drop)]
+pub struct BadSize;

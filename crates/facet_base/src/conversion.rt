@@ -1,0 +1,75 @@
+use crate::layout::ShapeId;
+use crate::many::Many;
+use crate::text::Text;
+use std::fmt;
+
+/// How a conversion of a value into another type ended.
+#[derive(Clone, Copy, PartialEq, Eq, Debug)]
+pub enum TryFromOutcome {
+    /// The value was converted.
+    Converted,
+    /// The type takes no values of the value's type, and the value is as it was.
+    Unsupported,
+    /// The type takes values of the value's type, but not this one, which is dropped.
+    Failed,
+}
+
+/// Why a value isn't converted into another type.
+#[derive(Drop)]
+pub enum TryFromError {
+    /// The type takes values of the expected shapes, and not of the source's.
+    UnsupportedSourceShape {
+        src_shape: ShapeId,
+        expected: Many<ShapeId>,
+    },
+    /// The type takes no values of the source's type.
+    UnsupportedSourceType,
+    /// Another cause, in words.
+    Generic(Text),
+}
+
+/// Why a value isn't converted into the type that it wraps.
+#[derive(Drop)]
+pub enum TryIntoInnerError {
+    /// The type has no such conversion.
+    NotSupported,
+    /// Another cause, in words.
+    Generic(Text),
+}
+
+impl fmt::Display for TryIntoInnerError {
+    ghost use Rattle.std.specs.Prelude.{Some};
+    ghost use Rattle.facet_base.specs.Conversion.{into_inner_text};
+
+    ghost output = { λ error. Some (into_inner_text error) };
+
+    fn fmt<W: fmt::Write>(&self, f: &mut fmt::Formatter<W>) -> fmt::Result {
+        match self {
+            TryIntoInnerError::NotSupported => f.write_str("try_into_inner not supported"),
+            TryIntoInnerError::Generic(text) => f.write_str(text.as_str()),
+        }
+    }
+}
+
+/// Why the value that another wraps isn't lent.
+#[derive(Drop)]
+pub enum TryBorrowInnerError {
+    /// The type doesn't lend what it wraps.
+    NotSupported,
+    /// Another cause, in words.
+    Generic(Text),
+}
+
+impl fmt::Display for TryBorrowInnerError {
+    ghost use Rattle.std.specs.Prelude.{Some};
+    ghost use Rattle.facet_base.specs.Conversion.{borrow_inner_text};
+
+    ghost output = { λ error. Some (borrow_inner_text error) };
+
+    fn fmt<W: fmt::Write>(&self, f: &mut fmt::Formatter<W>) -> fmt::Result {
+        match self {
+            TryBorrowInnerError::NotSupported => f.write_str("try_borrow_inner not supported"),
+            TryBorrowInnerError::Generic(text) => f.write_str(text.as_str()),
+        }
+    }
+}

@@ -1,0 +1,198 @@
+use crate::{
+    DeclId, Layout, Many, ParseError, ScalarType, ShapeId, ShapeLayout, Text, TryBorrowInnerError,
+    TryIntoInnerError, TypeNameOpts, UnsizedError, Variance, VarianceDep, VarianceDesc,
+    VariancePosition, Write, decl_id_hash, decl_id_hash_extern,
+};
+use bytes::BytesMut;
+use std::alloc::AllocError;
+use std::test::Fail;
+
+#[test]
+fn hashes_are_those_of_the_standard(rt: HostRuntime) {
+    for (text, hash) in [
+        ("", 144066263297769815596495629667062367629),
+        ("a", 279349696671665264231447081680185756004),
+        ("foobar", 0x343e1662793c64bf6f0d3597ba446f18),
+    ] {
+        assert_eq!(rt; decl_id_hash(text), hash, "at {text}");
+    }
+    assert_eq!(rt;
+        decl_id_hash_extern("alloc::vec", "struct", "Vec"),
+        49987748937225939927979691961606443783
+    );
+}
+
+#[test]
+fn a_declaration_is_printed_with_32_digits(rt: HostRuntime) -> Result<(), Fail> {
+    let alloc = rt.alloc();
+    for (hash, printed) in [
+        (0, "DeclId(0x00000000000000000000000000000000)"),
+        (
+            144066263297769815596495629667062367629,
+            "DeclId(0x6c62272e07bb014262b821756295c58d)",
+        ),
+        (u128::MAX, "DeclId(0xffffffffffffffffffffffffffffffff)"),
+    ] {
+        let id = DeclId::new(hash);
+        assert_eq!(rt; format!(in alloc; "{id:?}")?.as_str(), printed);
+    }
+    Ok(())
+}
+
+#[test]
+fn a_refused_parse_prints_the_kind(rt: HostRuntime) -> Result<(), Fail> {
+    let alloc = rt.alloc();
+    for (kind, printed) in [
+        (ScalarType::U32, "failed to parse u32"),
+        (ScalarType::Str, "failed to parse str"),
+        (ScalarType::String, "failed to parse String"),
+        (ScalarType::Unit, "failed to parse ()"),
+        (ScalarType::ISize, "failed to parse isize"),
+    ] {
+        assert_eq!(rt; ParseError { kind }.to_string(alloc)?.as_str(), printed);
+    }
+    Ok(())
+}
+
+#[test]
+fn a_conversion_that_is_not_there_prints_its_name_and_another_its_text(
+    rt: HostRuntime,
+) -> Result<(), Fail> {
+    let alloc = rt.alloc();
+    let error = TryIntoInnerError::NotSupported;
+    assert_eq!(rt;
+        error.to_string(alloc)?.as_str(),
+        "try_into_inner not supported"
+    );
+    let error = TryIntoInnerError::Generic(Text::new(alloc, "moved")?);
+    assert_eq!(rt; error.to_string(alloc)?.as_str(), "moved");
+    let error = TryBorrowInnerError::NotSupported;
+    assert_eq!(rt;
+        error.to_string(alloc)?.as_str(),
+        "try_borrow_inner not supported"
+    );
+    let error = TryBorrowInnerError::Generic(Text::new(alloc, "lent")?);
+    assert_eq!(rt; error.to_string(alloc)?.as_str(), "lent");
+    Ok(())
+}
+
+#[test]
+fn only_a_sized_layout_is_answered(rt: HostRuntime) -> Result<(), Fail> {
+    let alloc = rt.alloc();
+    let layout = Layout { size: 24, align: 8 };
+    assert_eq!(rt; ShapeLayout::Sized(layout).sized_layout(), Ok(layout));
+    assert_eq!(rt; ShapeLayout::Unsized.sized_layout(), Err(UnsizedError));
+    assert_eq!(rt; UnsizedError.to_string(alloc)?.as_str(), "Not a Sized type");
+    Ok(())
+}
+
+#[test]
+fn names_show_one_level_less_for_children(rt: HostRuntime) {
+    for (levels, children) in [
+        (TypeNameOpts::none().recurse_ttl, None),
+        (TypeNameOpts::one().recurse_ttl, Some(0)),
+        (5, Some(4)),
+        (TypeNameOpts::infinite().recurse_ttl, Some(-1)),
+        (TypeNameOpts::default().recurse_ttl, Some(-1)),
+        (-7, Some(-7)),
+    ] {
+        let opts = TypeNameOpts {
+            recurse_ttl: levels,
+        };
+        let shown = opts.for_children().map(|opts| opts.recurse_ttl);
+        assert_eq!(rt; shown, children, "at {levels}");
+    }
+}
+
+#[test]
+fn variances_are_joined_and_flipped(rt: HostRuntime) {
+    for (first, second, joined) in [
+        (
+            Variance::COVARIANT,
+            Variance::CONTRAVARIANT,
+            Variance::INVARIANT,
+        ),
+        (
+            Variance::CONTRAVARIANT,
+            Variance::CONTRAVARIANT,
+            Variance::CONTRAVARIANT,
+        ),
+        (
+            Variance::BIVARIANT,
+            Variance::COVARIANT,
+            Variance::COVARIANT,
+        ),
+        (
+            Variance::INVARIANT,
+            Variance::BIVARIANT,
+            Variance::INVARIANT,
+        ),
+    ] {
+        assert_eq!(rt; first.combine(second), joined);
+    }
+    assert_eq!(rt; Variance::Contravariant.flip(), Variance::Covariant);
+    assert_eq!(rt; Variance::default().flip(), Variance::Invariant);
+    for (variance, shrinks, grows) in [
+        (Variance::Bivariant, true, true),
+        (Variance::Covariant, true, false),
+        (Variance::Contravariant, false, true),
+        (Variance::Invariant, false, false),
+    ] {
+        assert_eq!(rt;
+            (variance.can_shrink(), variance.can_grow()),
+            (shrinks, grows)
+        );
+    }
+}
+
+#[test]
+fn a_variance_is_described_by_its_members(rt: HostRuntime) -> Result<(), Fail> {
+    let alloc = rt.alloc();
+    let mut deps = Many::new(alloc);
+    deps.push(VarianceDep::covariant(ShapeId(16)))?;
+    deps.push(VarianceDep::contravariant(ShapeId(17)))?;
+    deps.push(VarianceDep::invariant(ShapeId(18)))?;
+    let desc = VarianceDesc::new(Variance::Covariant, deps);
+    let last = desc.deps.get(2).map(|dep| (dep.position, dep.shape));
+    assert_eq!(rt; desc.base, Variance::Covariant);
+    assert_eq!(rt; last, Some((VariancePosition::Invariant, ShapeId(18))));
+    let desc = VarianceDesc::bivariant(alloc);
+    assert_eq!(rt; (desc.base, desc.deps.len()), (Variance::Bivariant, 0));
+    let desc = VarianceDesc::invariant(alloc);
+    assert_eq!(rt; (desc.base, desc.deps.len()), (Variance::Invariant, 0));
+    Ok(())
+}
+
+#[test]
+fn texts_and_lists_keep_what_they_are_given(rt: HostRuntime) -> Result<(), Fail> {
+    let alloc = rt.alloc();
+    let text = Text::new(alloc, "ab")?;
+    let copy = text.try_clone(alloc)?;
+    assert_eq!(rt; (text.as_str(), copy.as_str()), ("ab", "ab"));
+    let mut list = Many::new(alloc);
+    list.push(ShapeId(6))?;
+    assert_eq!(rt; list.len(), 1);
+    list.reserve(2)?;
+    assert!(rt; list.spare() >= 2);
+    assert_eq!(rt; list.as_slice(), [ShapeId(6)].as_slice());
+    Ok(())
+}
+
+// Writes a text in two parts.
+fn write_abc<W: Write>(out: &mut W) -> Result<(), AllocError> {
+    out.reserve(3)?;
+    out.write(b"ab")?;
+    out.write(b"c")
+}
+
+#[test]
+fn outputs_append_what_is_written(rt: HostRuntime) -> Result<(), Fail> {
+    let alloc = rt.alloc();
+    let mut list = b"x".to_vec(alloc)?;
+    write_abc(&mut list)?;
+    assert_eq!(rt; list.as_slice(), b"xabc".as_slice());
+    let mut bytes = BytesMut::new(alloc);
+    write_abc(&mut bytes)?;
+    assert_eq!(rt; bytes.as_slice(), b"abc".as_slice());
+    Ok(())
+}
