@@ -1,0 +1,79 @@
+ghost use Rattle.std.specs.Prelude.{◌≡◌, true, false, replicate, slice_set};
+ghost use Rattle.facet_caps.specs.Empty.{empty_array};
+ghost use Rattle.facet_caps.specs.PartialRecord.{built};
+
+use facet_base::MissingField;
+use std::marker::Model;
+
+/// The operations of an array.
+#[derive(Clone, Copy)]
+pub struct ArrayVTable {
+    pub as_ptr: bool,
+    pub as_mut_ptr: bool,
+}
+
+impl ArrayVTable {
+    /// A builder that was given no member.
+    pub fn builder() -> ArrayVTableBuilder
+        ensures members { result.members ≡ empty_array }
+        ensures given { result.given ≡ replicate 2 false }
+    {
+        ArrayVTableBuilder {
+            as_ptr: None,
+            as_mut_ptr: None,
+        }
+    }
+}
+
+/// Makes an `ArrayVTable`. Required are, in this order: `as_ptr` and `as_mut_ptr`.
+#[derive(Drop)]
+pub struct ArrayVTableBuilder {
+    as_ptr: Option<bool>,
+    as_mut_ptr: Option<bool>,
+}
+
+impl Model for ArrayVTableBuilder {
+    ghost use Rattle.std.specs.Prelude.{[], ◌∷◌, false, unwrap_or, is_some as is_given};
+    ghost use Rattle.facet_caps.specs.declared.array_vtable.ArrayVTable.{ArrayVTable};
+    ghost use Rattle.facet_caps.specs.PartialRecord.{PartialRecord};
+
+    ghost Value = { PartialRecord ArrayVTable };
+
+    ghost view = { λ b. record {
+      members = record {
+        as_ptr = unwrap_or b.as_ptr false;
+        as_mut_ptr = unwrap_or b.as_mut_ptr false;
+      };
+      given = is_given b.as_ptr ∷ is_given b.as_mut_ptr ∷ [];
+    } };
+}
+
+impl ArrayVTableBuilder {
+    /// Sets whether all elements can be reached for reading.
+    pub fn as_ptr(mut self, value: bool) -> Self
+        ensures members { result.members ≡ record (self.members) { as_ptr = value } }
+        ensures given { result.given ≡ slice_set self.given 0 true }
+    {
+        self.as_ptr = Some(value);
+        self
+    }
+
+    /// Sets whether all elements can be reached for writing.
+    pub fn as_mut_ptr(mut self, value: bool) -> Self
+        ensures members { result.members ≡ record (self.members) { as_mut_ptr = value } }
+        ensures given { result.given ≡ slice_set self.given 1 true }
+    {
+        self.as_mut_ptr = Some(value);
+        self
+    }
+
+    /// The record of the members, or the first required one that is missing.
+    pub fn build(self) -> Result<ArrayVTable, MissingField>
+        ensures { result ≡ built self }
+    {
+        Ok(ArrayVTable {
+            as_ptr: self.as_ptr.ok_or(MissingField(0))?,
+            as_mut_ptr: self.as_mut_ptr.ok_or(MissingField(1))?,
+        })
+    }
+}

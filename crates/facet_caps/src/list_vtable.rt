@@ -1,0 +1,135 @@
+ghost use Rattle.std.specs.Prelude.{◌≡◌, true, false, replicate, slice_set};
+ghost use Rattle.facet_caps.specs.Empty.{empty_list};
+ghost use Rattle.facet_caps.specs.PartialRecord.{built};
+
+use facet_base::MissingField;
+use std::marker::Model;
+
+/// The operations of a list.
+#[derive(Clone, Copy)]
+pub struct ListVTable {
+    pub len: bool,
+    pub get: bool,
+    pub get_mut: bool,
+    pub as_ptr: bool,
+    pub as_mut_ptr: bool,
+    pub swap: bool,
+}
+
+impl ListVTable {
+    /// A builder that was given no member.
+    pub fn builder() -> ListVTableBuilder
+        ensures members { result.members ≡ empty_list }
+        ensures given { result.given ≡ replicate 2 false }
+    {
+        ListVTableBuilder {
+            len: None,
+            get: None,
+            get_mut: false,
+            as_ptr: false,
+            as_mut_ptr: false,
+            swap: false,
+        }
+    }
+}
+
+/// Makes a `ListVTable`. Required are, in this order: `len` and `get`.
+#[derive(Drop)]
+pub struct ListVTableBuilder {
+    len: Option<bool>,
+    get: Option<bool>,
+    get_mut: bool,
+    as_ptr: bool,
+    as_mut_ptr: bool,
+    swap: bool,
+}
+
+impl Model for ListVTableBuilder {
+    ghost use Rattle.std.specs.Prelude.{[], ◌∷◌, false, unwrap_or, is_some as is_given};
+    ghost use Rattle.facet_caps.specs.declared.list_vtable.ListVTable.{ListVTable};
+    ghost use Rattle.facet_caps.specs.PartialRecord.{PartialRecord};
+
+    ghost Value = { PartialRecord ListVTable };
+
+    ghost view = { λ b. record {
+      members = record {
+        len = unwrap_or b.len false;
+        get = unwrap_or b.get false;
+        get_mut = b.get_mut;
+        as_ptr = b.as_ptr;
+        as_mut_ptr = b.as_mut_ptr;
+        swap = b.swap;
+      };
+      given = is_given b.len ∷ is_given b.get ∷ [];
+    } };
+}
+
+impl ListVTableBuilder {
+    /// Sets whether the length can be asked for.
+    pub fn len(mut self, value: bool) -> Self
+        ensures members { result.members ≡ record (self.members) { len = value } }
+        ensures given { result.given ≡ slice_set self.given 0 true }
+    {
+        self.len = Some(value);
+        self
+    }
+
+    /// Sets whether an element can be reached for reading.
+    pub fn get(mut self, value: bool) -> Self
+        ensures members { result.members ≡ record (self.members) { get = value } }
+        ensures given { result.given ≡ slice_set self.given 1 true }
+    {
+        self.get = Some(value);
+        self
+    }
+
+    /// Sets whether an element can be reached for writing.
+    pub fn get_mut(mut self, value: bool) -> Self
+        ensures members { result.members ≡ record (self.members) { get_mut = value } }
+        ensures given { result.given ≡ self.given }
+    {
+        self.get_mut = value;
+        self
+    }
+
+    /// Sets whether all elements can be reached for reading at once.
+    pub fn as_ptr(mut self, value: bool) -> Self
+        ensures members { result.members ≡ record (self.members) { as_ptr = value } }
+        ensures given { result.given ≡ self.given }
+    {
+        self.as_ptr = value;
+        self
+    }
+
+    /// Sets whether all elements can be reached for writing at once.
+    pub fn as_mut_ptr(mut self, value: bool) -> Self
+        ensures members { result.members ≡ record (self.members) { as_mut_ptr = value } }
+        ensures given { result.given ≡ self.given }
+    {
+        self.as_mut_ptr = value;
+        self
+    }
+
+    /// Sets whether two elements can be exchanged.
+    pub fn swap(mut self, value: bool) -> Self
+        ensures members { result.members ≡ record (self.members) { swap = value } }
+        ensures given { result.given ≡ self.given }
+    {
+        self.swap = value;
+        self
+    }
+
+    /// The record of the members, false where none was given, or the first required one that is missing.
+    pub fn build(self) -> Result<ListVTable, MissingField>
+        ensures { result ≡ built self }
+    {
+        Ok(ListVTable {
+            len: self.len.ok_or(MissingField(0))?,
+            get: self.get.ok_or(MissingField(1))?,
+            get_mut: self.get_mut,
+            as_ptr: self.as_ptr,
+            as_mut_ptr: self.as_mut_ptr,
+            swap: self.swap,
+        })
+    }
+}

@@ -1,0 +1,171 @@
+use crate::pointer_vtable::PointerVTable;
+use crate::type_ops::{TypeOps, TypeOpsDirect, TypeOpsIndirect};
+use crate::typed_builder::TypedVTableDirectBuilder;
+use crate::vtable::{VTableDirect, VTableIndirect};
+use crate::vtable_erased::VTableErased;
+use std::test::Fail;
+
+// The builder that sets the member at a place of the record.
+fn with_member(place: usize, value: bool) -> TypedVTableDirectBuilder {
+    let builder = VTableDirect::builder_for();
+    match place {
+        0 => builder.display(value),
+        1 => builder.debug(value),
+        2 => builder.hash(value),
+        3 => builder.invariants(value),
+        4 => builder.parse(value),
+        5 => builder.parse_bytes(value),
+        6 => builder.try_from(value),
+        7 => builder.try_into_inner(value),
+        8 => builder.try_borrow_inner(value),
+        9 => builder.partial_eq(value),
+        10 => builder.partial_cmp(value),
+        _ => builder.cmp(value),
+    }
+}
+
+// The record of a generic type with the same members.
+fn indirect(vtable: VTableDirect) -> VTableIndirect {
+    VTableIndirect {
+        display: vtable.display,
+        debug: vtable.debug,
+        hash: vtable.hash,
+        invariants: vtable.invariants,
+        parse: vtable.parse,
+        parse_bytes: vtable.parse_bytes,
+        try_from: vtable.try_from,
+        try_into_inner: vtable.try_into_inner,
+        try_borrow_inner: vtable.try_borrow_inner,
+        partial_eq: vtable.partial_eq,
+        partial_cmp: vtable.partial_cmp,
+        cmp: vtable.cmp,
+    }
+}
+
+fn answers(erased: &VTableErased) -> [bool; 11] {
+    [
+        erased.has_display(),
+        erased.has_debug(),
+        erased.has_hash(),
+        erased.has_partial_eq(),
+        erased.has_partial_ord(),
+        erased.has_ord(),
+        erased.has_parse(),
+        erased.has_parse_bytes(),
+        erased.has_try_from(),
+        erased.has_try_borrow_inner(),
+        erased.has_invariants(),
+    ]
+}
+
+// For each member of the record, which of these answers reads it.
+fn readers() -> [Option<usize>; 12] {
+    [
+        Some(0),
+        Some(1),
+        Some(2),
+        Some(10),
+        Some(6),
+        Some(7),
+        Some(8),
+        None,
+        Some(9),
+        Some(3),
+        Some(4),
+        Some(5),
+    ]
+}
+
+#[test]
+fn each_question_reads_its_member_alone(rt: HostRuntime) {
+    for (place, reader) in readers().iter().enumerate() {
+        let vtable = with_member(place, true).build();
+        let direct = answers(&VTableErased::from(vtable));
+        let generic = answers(&indirect(vtable).into());
+        for answer in 0..11 {
+            let wanted = *reader == Some(answer);
+            assert_eq!(rt;
+                direct[answer],
+                wanted,
+                "question {answer} of member {place}"
+            );
+            assert_eq!(rt;
+                generic[answer],
+                wanted,
+                "question {answer} of generic member {place}"
+            );
+        }
+    }
+}
+
+#[test]
+fn an_optional_setter_sets_and_unsets(rt: HostRuntime) {
+    let set = VTableDirect::builder_for()
+        .display_opt(true)
+        .debug_opt(true)
+        .hash_opt(true)
+        .partial_eq_opt(true)
+        .partial_cmp_opt(true)
+        .cmp_opt(true);
+    let all = set.debug_opt(false).cmp_opt(false).build();
+    assert!(rt;
+        all.display && !all.debug && all.hash && all.partial_eq && all.partial_cmp && !all.cmp
+    );
+    assert!(rt; !all.invariants && !all.parse && !all.parse_bytes && !all.try_from);
+    assert!(rt; !all.try_into_inner && !all.try_borrow_inner);
+}
+
+fn made<T: Default>() -> T {
+    T::default()
+}
+
+#[test]
+fn defaults_have_no_member(rt: HostRuntime) {
+    let none = [false; 11];
+    assert_eq!(rt; answers(&made::<VTableDirect>().into()), none);
+    assert_eq!(rt; answers(&made::<VTableIndirect>().into()), none);
+    assert_eq!(rt; answers(&VTableIndirect::EMPTY.into()), none);
+    assert_eq!(rt; answers(&VTableDirect::builder().into()), none);
+    let pointer = made::<PointerVTable>();
+    assert!(rt; !pointer.upgrade_into_fn && !pointer.downgrade_into_fn && !pointer.borrow_fn);
+    assert!(rt; !pointer.new_into_fn && !pointer.lock_fn && !pointer.read_fn && !pointer.write_fn);
+    assert!(rt; pointer.slice_builder_vtable.is_none());
+}
+
+#[test]
+fn debug_texts_name_the_variant(rt: HostRuntime) -> Result<(), Fail> {
+    let alloc = rt.alloc();
+    let direct = VTableErased::from(VTableDirect::empty());
+    let generic = VTableErased::from(VTableIndirect::empty());
+    assert_eq!(rt;
+        format!(in alloc; "{direct:?}")?.as_str(),
+        "Direct(\"...\")"
+    );
+    assert_eq!(rt;
+        format!(in alloc; "{generic:?}")?.as_str(),
+        "Indirect(\"...\")"
+    );
+    Ok(())
+}
+
+#[test]
+fn operations_are_read_from_either_record(rt: HostRuntime) {
+    let direct = TypeOps::from(TypeOpsDirect {
+        drop_in_place: true,
+        default_in_place: false,
+        clone_into: true,
+        is_truthy: false,
+    });
+    assert!(rt;
+        direct.has_clone_into() && !direct.has_default_in_place() && !direct.truthiness_fn()
+    );
+    let generic = TypeOps::from(TypeOpsIndirect {
+        drop_in_place: false,
+        default_in_place: true,
+        clone_into: false,
+        is_truthy: true,
+    });
+    assert!(rt;
+        !generic.has_clone_into() && generic.has_default_in_place() && generic.truthiness_fn()
+    );
+}
