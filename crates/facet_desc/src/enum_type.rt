@@ -1,0 +1,104 @@
+ghost use Rattle.std.specs.Prelude.{◌≡◌, codes, false, true};
+ghost use Rattle.std.specs.Option.{option_copied};
+ghost use Rattle.facet_desc.specs.Variants.{cow_variant, variant_named};
+
+use crate::repr::{EnumRepr, Repr};
+use crate::variant::Variant;
+use facet_base::Many;
+use std::marker::Model;
+
+/// An enum.
+#[derive(Drop)]
+pub struct EnumType {
+    pub repr: Repr,
+    pub enum_repr: EnumRepr,
+    pub variants: Many<Variant>,
+    pub is_cow: bool,
+}
+
+impl EnumType {
+    /// The first variant named `Borrowed` of an enum that is borrowed or owned; of another there is none.
+    pub fn borrowed_variant(&self) -> Option<&Variant>
+        ensures { option_copied result ≡ cow_variant (codes "Borrowed") self.now }
+    {
+        find_cow_variant(self, "Borrowed")
+    }
+
+    /// The first variant named `Owned` of an enum that is borrowed or owned; of another there is none.
+    pub fn owned_variant(&self) -> Option<&Variant>
+        ensures { option_copied result ≡ cow_variant (codes "Owned") self.now }
+    {
+        find_cow_variant(self, "Owned")
+    }
+}
+
+fn find_cow_variant<'a>(enum_type: &'a EnumType, name: &str) -> Option<&'a Variant>
+    ensures { option_copied result ≡ cow_variant name.now enum_type.now }
+{
+    if enum_type.is_cow {
+        find_variant(enum_type.variants.as_slice(), name)
+    } else {
+        None
+    }
+}
+
+fn find_variant<'a>(variants: &'a [Variant], name: &str) -> Option<&'a Variant>
+    ensures { option_copied result ≡ variant_named name.now variants.now }
+{
+    variants
+        .iter()
+        .find(|variant| variant.name.as_str() == name)
+}
+
+/// Builds an enum. Contracts see the enum so far.
+#[derive(Drop)]
+pub struct EnumTypeBuilder {
+    built: EnumType,
+}
+
+impl Model for EnumTypeBuilder {
+    ghost use Rattle.facet_desc.specs.declared.enum_type.EnumType.{EnumType};
+
+    ghost Value = { EnumType };
+
+    ghost view = { λ b. b.built };
+}
+
+impl EnumTypeBuilder {
+    /// The enum of this number and these variants, by C's rules, that isn't one of borrowed or owned.
+    pub fn new(enum_repr: EnumRepr, variants: Many<Variant>) -> EnumTypeBuilder
+        ensures { result ≡ record { repr = Repr.C; enum_repr = enum_repr; variants = variants; is_cow = false } }
+    {
+        EnumTypeBuilder {
+            built: EnumType {
+                repr: Repr::C,
+                enum_repr,
+                variants,
+                is_cow: false,
+            },
+        }
+    }
+
+    /// Sets the rules by which it lies in memory.
+    pub fn repr(mut self, value: Repr) -> Self
+        ensures { result ≡ record self { repr = value } }
+    {
+        self.built.repr = value;
+        self
+    }
+
+    /// Says that its values are borrowed or owned.
+    pub fn cow(mut self) -> Self
+        ensures { result ≡ record self { is_cow = true } }
+    {
+        self.built.is_cow = true;
+        self
+    }
+
+    /// The enum as it was built.
+    pub fn build(self) -> EnumType
+        ensures { result ≡ self }
+    {
+        self.built
+    }
+}

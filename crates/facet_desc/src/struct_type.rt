@@ -1,0 +1,83 @@
+ghost use Rattle.std.specs.Prelude.{◌≡◌, []};
+
+use crate::field::Field;
+use crate::repr::Repr;
+use facet_base::Many;
+use std::alloc::Global;
+use std::marker::Model;
+
+/// A struct, a tuple or what a variant holds.
+#[derive(Drop)]
+pub struct StructType {
+    pub repr: Repr,
+    pub kind: StructKind,
+    pub fields: Many<Field>,
+}
+
+/// How the fields of a struct are written.
+#[derive(Clone, Copy, PartialEq, Eq, Hash, Debug)]
+pub enum StructKind {
+    Unit,
+    TupleStruct,
+    Struct,
+    Tuple,
+}
+
+impl StructType {
+    /// The struct without fields. It takes no memory.
+    pub fn unit(alloc: Global) -> StructType
+        ensures kind { result.kind ≡ StructKind.Unit }
+        ensures repr { result.repr ≡ Repr.C }
+        ensures fields { result.fields.items ≡ [] }
+    {
+        StructType {
+            repr: Repr::C,
+            kind: StructKind::Unit,
+            fields: Many::new(alloc),
+        }
+    }
+}
+
+/// Builds a struct. Contracts see the struct so far.
+#[derive(Drop)]
+pub struct StructTypeBuilder {
+    built: StructType,
+}
+
+impl Model for StructTypeBuilder {
+    ghost use Rattle.facet_desc.specs.declared.struct_type.StructType.{StructType};
+
+    ghost Value = { StructType };
+
+    ghost view = { λ b. b.built };
+}
+
+impl StructTypeBuilder {
+    /// The struct of this kind and these fields, by C's rules.
+    pub fn new(kind: StructKind, fields: Many<Field>) -> StructTypeBuilder
+        ensures { result ≡ record { repr = Repr.C; kind = kind; fields = fields } }
+    {
+        StructTypeBuilder {
+            built: StructType {
+                repr: Repr::C,
+                kind,
+                fields,
+            },
+        }
+    }
+
+    /// Sets the rules by which it lies in memory.
+    pub fn repr(mut self, value: Repr) -> Self
+        ensures { result ≡ record self { repr = value } }
+    {
+        self.built.repr = value;
+        self
+    }
+
+    /// The struct as it was built.
+    pub fn build(self) -> StructType
+        ensures { result ≡ self }
+    {
+        self.built
+    }
+}
