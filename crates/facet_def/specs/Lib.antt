@@ -1,0 +1,4 @@
+pub mod Cases
+pub mod Pointers
+pub mod Types
+pub mod TypeOperations
