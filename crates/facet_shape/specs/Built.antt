@@ -1,0 +1,90 @@
+-- What a builder of shapes begins with, and what it builds.
+use Rattle.std.specs.Prelude.{◌≡◌, ◌==◌, ◌||◌, ℕ, Bool, List, [], Option, None, Some, if◌then◌else◌, length, nat_lt, option_map}
+use Rattle.std.specs.Int.RustNames.{bit_or}
+use Rattle.facet_base.specs.DeclId.{extern_text}
+use Rattle.facet_base.specs.Fnv.{fnv, fnv_start}
+use Rattle.facet_base.specs.declared.layout.ShapeLayout.{ShapeLayout}
+use Rattle.facet_base.specs.declared.variance.Variance.TheVariants as variance
+use Rattle.facet_caps.specs.Empty.{empty_direct}
+use Rattle.facet_caps.specs.declared.vtable_erased.VTableErased.TheVariants as erased
+use Rattle.facet_def.specs.Types.{type_of}
+use Rattle.facet_def.specs.declared.def.Def.{Def}
+use Rattle.facet_def.specs.declared.def.Def.TheVariants as def
+use Rattle.facet_desc.specs.Texts.{kind_text}
+use Rattle.facet_desc.specs.declared.ty.Ty.{Ty}
+use Rattle.facet_desc.specs.declared.ty.Ty.TheVariants as ty
+use Rattle.facet_shape.specs.declared.shape.Shape.{Shape}
+
+-- the shape of a type of that identifier and layout, of which nothing else is set
+pub record IsPlainShape (s : Shape) (its_identifier : List ℕ) (its_layout : ShapeLayout) : Type 0 where
+  pub id : s.id.0 ≡ 0
+  pub decl_id : s.decl_id.0 ≡ 0
+  pub layout : s.layout ≡ its_layout
+  pub vtable : s.vtable ≡ erased.Direct empty_direct
+  pub type_ops : s.type_ops ≡ None
+  pub marker_traits : s.marker_traits.bits ≡ 0
+  pub ty : s.ty ≡ ty.Undefined
+  pub def : s.def ≡ def.Undefined
+  pub type_identifier : s.type_identifier ≡ its_identifier
+  pub module_path : s.module_path ≡ None
+  pub source_file : s.source_file ≡ None
+  pub source_line : s.source_line ≡ None
+  pub source_column : s.source_column ≡ None
+  pub type_params : s.type_params.items ≡ []
+  pub const_params : s.const_params.items ≡ []
+  pub doc : s.doc.items ≡ []
+  pub attributes : s.attributes.items ≡ []
+  pub type_tag : s.type_tag ≡ None
+  pub inner : s.inner ≡ None
+  pub builder_shape : s.builder_shape ≡ None
+  pub type_name : s.type_name ≡ None
+  pub proxy : s.proxy ≡ None
+  pub format_proxies : s.format_proxies.items ≡ []
+  pub opaque_adapter : s.opaque_adapter ≡ None
+  pub variance : s.variance.base ≡ variance.Bivariant
+  pub variance_deps : s.variance.deps.items ≡ []
+  pub flags : s.flags.bits ≡ 0
+  pub tag : s.tag ≡ None
+  pub content : s.content ≡ None
+  pub rename : s.rename ≡ None
+  pub scalar : s.scalar ≡ None
+
+-- the shape with a flag beside those that it has
+abbrev pub with_flag : ℕ → Shape → Shape
+with_flag flag s = record s { flags = record { bits = bit_or s.flags.bits flag } }
+
+-- the shape with a marker trait beside those that it has
+abbrev pub with_marker : ℕ → Shape → Shape
+with_marker marker s = record s { marker_traits = record { bits = bit_or s.marker_traits.bits marker } }
+
+-- the type, and the definition's default type in place of an undefined one
+abbrev pub type_or_default : Ty → Def → Ty
+type_or_default ty.Undefined definition = type_of definition
+type_or_default t _ = t
+
+-- the shape with that type
+abbrev pub with_resolved_type : Shape → Shape
+with_resolved_type s = record s { ty = type_or_default s.ty s.def }
+
+-- it is the shape of a generic type
+abbrev pub has_parameters : Shape → Bool
+has_parameters s = nat_lt 0 (length s.type_params.items) || nat_lt 0 (length s.const_params.items)
+
+-- the hash of the identifier, or of a generic type that of its module path, kind and identifier, which asks for a path
+abbrev pub hashed_id : Shape → Option ℕ
+hashed_id s =
+    if has_parameters s
+    then option_map (λ path. fnv fnv_start (extern_text path (kind_text s.ty) s.type_identifier)) s.module_path
+    else Some (fnv fnv_start s.type_identifier)
+
+-- the number of the declaration: the given one where it isn't 0, else that hash
+abbrev pub declared_id : Shape → Option ℕ
+declared_id s = if s.decl_id.0 == 0 then hashed_id s else Some s.decl_id.0
+
+-- the shape with the number of its declaration, where there is one
+abbrev pub with_declared_id : Shape → Option Shape
+with_declared_id s = option_map (λ n. record s { decl_id = record { 0 = n } }) (declared_id s)
+
+-- what is built: the shape with its type, and then with the number of its declaration
+abbrev pub built : Shape → Option Shape
+built s = with_declared_id (with_resolved_type s)

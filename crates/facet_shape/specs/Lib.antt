@@ -1,0 +1,4 @@
+pub mod Built
+pub mod Capability
+pub mod Kind
+pub mod Memory

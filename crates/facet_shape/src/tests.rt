@@ -1,0 +1,4 @@
+mod accessors;
+mod building;
+mod identity;
+mod memory;
