@@ -30,10 +30,10 @@ shows_same m s t state same shown = record {
 }
 
 -- a new session shows the first state
-shows_new : {L : Type 0} (m : LeafModel L) (s : Session L) → IsNew s → Shows m s first_state
+shows_new : {L : Type 0} (m : LeafModel L) (s : Session L) → IsNew m s → Shows m s (first_state m)
 shows_new m s new = record {
   registry = new.registry;
-  cells = subst (λ cells. ShowEntries m prelude cells []) (sym new.cells) tt;
+  cells = subst (λ cells. ShowEntries m (prelude m) cells []) (sym new.cells) tt;
 }
 
 no_cells : {L : Type 0} (m : LeafModel L) (registry : Registry) (cells : List (Cell L)) → ShowEntries m registry cells [] → cells ≡ []
@@ -49,7 +49,7 @@ appends_none None = tt
 appends_none (Some known) = sym (append-nil known)
 
 -- before the first line
-pub stands_first : {L : Type 0} (m : LeafModel L) (script : List ℕ) (told : Option (List ℕ)) (s : Session L) → IsNew s → Stands m script 0 (turns_from m (after m script 0) (lines script)) told told s
+pub stands_first : {L : Type 0} (m : LeafModel L) (script : List ℕ) (told : Option (List ℕ)) (s : Session L) → IsNew m s → Stands m script 0 (turns_from m (after m script 0) (lines script)) told told s
 unfolding after answers
 stands_first m script told s new = record { left = refl; cells = shows_new m s new; handed = appends_none told }
 
@@ -149,12 +149,12 @@ no_answers : {L : Type 0} (m : LeafModel L) (script : List ℕ) → answers m sc
 unfolding answers
 no_answers m script = refl
 
-no_steps : {L : Type 0} (m : LeafModel L) (script : List ℕ) → after m script 0 ≡ first_state
+no_steps : {L : Type 0} (m : LeafModel L) (script : List ℕ) → after m script 0 ≡ first_state m
 unfolding after
 no_steps m script = refl
 
 -- nothing was done, which this status allows
-pub idle : {L : Type 0} (m : LeafModel L) (told written : Option (List ℕ)) (s : Session L) (status : Status) → ((script : List ℕ) → Writes m status script 0 []) → IsNew s
+pub idle : {L : Type 0} (m : LeafModel L) (told written : Option (List ℕ)) (s : Session L) (status : Status) → ((script : List ℕ) → Writes m status script 0 []) → IsNew m s
     → (script : List ℕ) × Tells told script × Serves m script (record { status = status; lines = 0 }) written written s
 idle m told written s status writes new =
     let (script, tells) = told_script told in (

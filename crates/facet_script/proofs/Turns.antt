@@ -22,7 +22,7 @@ state_after_more state (step ∷ steps) turn = state_after_more step.state steps
 pub after_next : {L : Type 0} (m : LeafModel L) (script : List ℕ) (k : ℕ) (turn : Turn L) (rest : List (Turn L)) → drop k (turns m script) ≡ turn ∷ rest → after m script (k + 1) ≡ turn.state
 unfolding after
 after_next m script k turn rest e =
-    ap (state_after first_state) (next_at (turns m script) k turn rest e).0 ∙ state_after_more first_state (take k (turns m script)) turn
+    ap (state_after (first_state m)) (next_at (turns m script) k turn rest e).0 ∙ state_after_more (first_state m) (take k (turns m script)) turn
 
 pub answers_next : {L : Type 0} (m : LeafModel L) (script : List ℕ) (k : ℕ) (turn : Turn L) (rest : List (Turn L)) → drop k (turns m script) ≡ turn ∷ rest → answers m script (k + 1) ≡ answers m script k ++ answer_line m turn
 unfolding answers

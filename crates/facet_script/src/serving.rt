@@ -21,7 +21,7 @@ pub fn serve<L: Leaf, K: Sink>(
     sink: &mut K,
     session: &mut Session<L>,
 ) -> Report
-    requires { IsNew session.old }
+    requires { IsNew L.model session.old }
     ensures served { Serves L.model script.now result (K.written sink.old) (K.written sink.new) session.new }
     ensures dropped { result.status ≡ Status.Ok → session.new.cells.items ≡ [] }
     ensures status { (result.status ≡ Status.Ok) ⊎ IsCutShort result.status }
@@ -61,7 +61,7 @@ fn serve_lines<L: Leaf, K: Sink>(
     sink: &mut K,
     session: &mut Session<L>,
 ) -> Result<usize, Report>
-    requires { IsNew session.old }
+    requires { IsNew L.model session.old }
     ensures stands { IfOk result (λ k. Stands L.model script.now k (last (after L.model script.now k) ∷ []) (K.written sink.old) (K.written sink.new) session.new) }
     ensures count { IfOk result (λ k. (k ≡ length (lines script.now)) × (k ≤ length script.now)) }
     ensures kept { OnOk result (K.faults sink.new ≡ K.faults sink.old) }

@@ -22,7 +22,7 @@ pub fn run<L: Leaf, S: Source, K: Sink>(
     sink: &mut K,
     session: &mut Session<L>,
 ) -> Report
-    requires { IsNew session.old }
+    requires { IsNew L.model session.old }
 
     // What was written and what the session holds, for the script that the source had left, where it tells that.
     ensures served { (script : List ℕ) × Tells (S.left source.old) script

@@ -79,4 +79,4 @@ run_keeps m p state (line ∷ rest) (suc k) =
 
 pub conserved : {L : Type 0} (m : LeafModel L) (script : List ℕ) (k : ℕ) → Balances m script k
 unfolding after made dropped
-conserved m script k p = omega (arith, run_keeps m p first_state (lines script) k)
+conserved m script k p = omega (arith, run_keeps m p (first_state m) (lines script) k)

@@ -12,4 +12,4 @@ ends_empty m state (line ∷ rest) =
 
 pub nothing_left : {L : Type 0} (m : LeafModel L) (script : List ℕ) → (after m script (length (lines script) + 1)).entries ≡ []
 unfolding after
-nothing_left m script = ends_empty m first_state (lines script)
+nothing_left m script = ends_empty m (first_state m) (lines script)

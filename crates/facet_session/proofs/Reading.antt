@@ -9,7 +9,7 @@ use Rattle.facet_block.specs.Block.{item_at, item_kind, size_of, leaf_of, empty_
 use Rattle.facet_block.specs.declared.block.ItemKind.TheVariants as item
 use Rattle.facet_block.proofs.Ranges.{size-empty, item-empty, size-with_item, item-there, item-elsewhere}
 use Rattle.facet_block.specs.Span.{IsBeside}
-use Rattle.facet_shapes.specs.declared.shape.Shape.{Shape}
+use Rattle.facet_shape.specs.declared.shape.Shape.{Shape}
 use Rattle.facet_shapes.specs.Registry.{Registry, kind_of_found, kind_at, size_at}
 use Rattle.facet_shapes.specs.declared.value_kind.ValueKind.{ValueKind}
 use Rattle.facet_shapes.specs.declared.value_kind.ValueKind.TheVariants as kind
@@ -91,10 +91,10 @@ module _ {L : Type 0} where
   holds_leaf (Some (Tag n)) some = absurd (some refl)
   holds_leaf (Some (Sequence q)) some = absurd (some refl)
 
-  known_shape : (shapes : List Shape) (s : ℕ) (found : Option (Item L)) → (seen_kind (kind_of_found (slice_get shapes s)) found ≡ no_value → ⊥) → s < length shapes
-  known_shape [] s found some = absurd (some refl)
-  known_shape (shape ∷ shapes) zero found some = omega arith
-  known_shape (shape ∷ shapes) (suc s) found some = omega (arith, known_shape shapes s found some)
+  known_shape : (among shapes : List Shape) (s : ℕ) (found : Option (Item L)) → (seen_kind (kind_of_found among (slice_get shapes s)) found ≡ no_value → ⊥) → s < length shapes
+  known_shape among [] s found some = absurd (some refl)
+  known_shape among (shape ∷ shapes) zero found some = omega arith
+  known_shape among (shape ∷ shapes) (suc s) found some = omega (arith, known_shape among shapes s found some)
 
   module _ (m : LeafModel L) (registry : Registry) where
     no_parts : (parts : List (Place L)) (vs : Values L) → parts ≡ [] → ReadAll m registry parts vs → leaves_of_parts vs ≡ []
@@ -120,6 +120,6 @@ module _ {L : Type 0} where
     filled_by cell v reads =
         let some = seen_some cell.shape.0 cell.block v reads in
         record {
-          known = known_shape registry.shapes cell.shape.0 (item_at cell.block 0) some;
+          known = known_shape registry.shapes registry.shapes cell.shape.0 (item_at cell.block 0) some;
           filled = λ k of. holds_leaf (item_at cell.block 0) (leaf_found (kind_at registry cell.shape.0) k (item_at cell.block 0) of some);
         }

@@ -31,8 +31,8 @@ pub record Turn (L : Type 0) : Type 0 where
   pub dropped : List L
 
 -- the prelude, and no entry
-abbrev pub first_state : {L : Type 0} → State L
-first_state = record { registry = prelude; entries = [] }
+abbrev pub first_state : {L : Type 0} → LeafModel L → State L
+first_state m = record { registry = prelude m; entries = [] }
 
 -- a line that changes nothing
 abbrev pub refused : {L : Type 0} → State L → List ℕ → Turn L

@@ -20,7 +20,7 @@ turns_from m state (line ∷ rest) = next m state line ∷ turns_from m (next m 
 
 -- the steps of a script
 abbrev pub turns : {L : Type 0} → LeafModel L → List ℕ → List (Turn L)
-turns m bytes = turns_from m first_state (lines bytes)
+turns m bytes = turns_from m (first_state m) (lines bytes)
 
 -- the state that steps leave
 abbrev pub state_after : {L : Type 0} → State L → List (Turn L) → State L
@@ -33,7 +33,7 @@ answer_line m turn = text_of m turn ++ 10 ∷ []
 
 -- the state after the first k steps
 unfoldable pub after : {L : Type 0} → LeafModel L → List ℕ → ℕ → State L
-after m bytes k = state_after first_state (take k (turns m bytes))
+after m bytes k = state_after (first_state m) (take k (turns m bytes))
 
 -- the first k answers, each with a newline
 unfoldable pub answers : {L : Type 0} → LeafModel L → List ℕ → ℕ → List ℕ

@@ -41,8 +41,8 @@ module _ {L : Type 0} (m : LeafModel L) where
     pub dropped : answer.dropped ≡ length turn.dropped
 
 -- the prelude, no cell and an empty log
-pub record IsNew {L : Type 0} (session : Session L) : Type 0 where
-  pub registry : session.shapes ≡ prelude
+pub record IsNew {L : Type 0} (m : LeafModel L) (session : Session L) : Type 0 where
+  pub registry : session.shapes ≡ prelude m
   pub cells : session.cells.items ≡ []
   pub log : session.log.leaves ≡ []
 

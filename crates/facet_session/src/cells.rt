@@ -21,7 +21,7 @@ pub fn is_taken<L>(cells: &[Cell<L>], name: &Text) -> bool
 }
 
 /// The leaf that a cell's value is, if it is one.
-pub fn leaf_in<'a, L>(shapes: &Shapes<L>, cell: &'a Cell<L>) -> Option<&'a L>
+pub fn leaf_in<'a, L: Leaf>(shapes: &Shapes<L>, cell: &'a Cell<L>) -> Option<&'a L>
     requires { IsFilled shapes.now cell.now }
     ensures { option_to_list (option_copied result) ≡ stored_in shapes.now cell.now }
 {

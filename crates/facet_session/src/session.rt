@@ -2,7 +2,7 @@ ghost use Rattle.std.specs.Prelude.{◌≡◌, ◌↔◌, [], IsTrue, IfOk};
 ghost use Rattle.facet_session.specs.Session.{IsNew};
 
 use facet_base::{Many, ShapeId, Text};
-use facet_block::{Block, DropLog};
+use facet_block::{Block, DropLog, Leaf};
 use facet_shapes::Shapes;
 use std::alloc::{AllocError, Global};
 
@@ -16,7 +16,7 @@ pub struct Cell<L> {
 
 /// A registry, the cells in order of creation, and the leaves that the last step dropped.
 #[derive(Drop)]
-pub struct Session<L> {
+pub struct Session<L: Leaf> {
     pub shapes: Shapes<L>,
     pub cells: Many<Cell<L>>,
     pub log: DropLog<L>,
@@ -30,10 +30,10 @@ pub struct Answer {
     pub dropped: usize,
 }
 
-impl<L> Session<L> {
+impl<L: Leaf> Session<L> {
     /// The prelude, no cell and an empty log.
     pub fn new(alloc: Global) -> Result<Session<L>, AllocError>
-        ensures { IfOk result IsNew }
+        ensures { IfOk result (IsNew L.model) }
     {
         Ok(Session {
             shapes: Shapes::prelude(alloc)?,
@@ -44,7 +44,7 @@ impl<L> Session<L> {
 
     /// Whether it is as `new` gives it.
     pub fn is_new(&self) -> bool
-        ensures { IsTrue result ↔ IsNew self.now }
+        ensures { IsTrue result ↔ IsNew L.model self.now }
     {
         self.shapes.is_prelude() && self.cells.len() == 0 && self.log.leaves().is_empty()
     }

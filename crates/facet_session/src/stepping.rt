@@ -1,5 +1,5 @@
 ghost use Rattle.std.specs.Prelude.{◌≡◌, ◌<◌, [], Some, IfOk, OnOk, OnErr, Contains};
-ghost use Rattle.facet_shapes.specs.Registry.{kind_at, size_at};
+ghost use Rattle.facet_shapes.specs.Registry.{kind_at, size_at, size_of_layout};
 ghost use Rattle.facet_block.specs.Block.{empty_block, with_item};
 ghost use Rattle.facet_block.specs.declared.block.Item.{Leaf};
 ghost use Rattle.facet_session.specs.Interpreter.{State, next, last, turn_of, put as put_turn, put_kind, put_leaf};
@@ -11,7 +11,7 @@ use crate::cells::{drop_values, is_taken};
 use crate::command::{Command, read_command};
 use crate::session::{Answer, Cell, Session};
 use crate::writing::{refuse, text_of_end, text_of_made};
-use facet_base::{Characteristic, Many, ScalarType, ShapeId, Text};
+use facet_base::{Characteristic, Many, ScalarType, ShapeId, ShapeLayout, Text};
 use facet_block::{Block, Leaf, PtrUninit};
 use facet_shapes::{Shapes, ValueKind};
 use std::alloc::{AllocError, Global};
@@ -160,11 +160,21 @@ fn block_of<L: Leaf>(
 }
 
 // The size of a shape in bytes, 0 where there is none.
-fn size_of<L>(shapes: &Shapes<L>, shape: ShapeId) -> usize
+fn size_of<L: Leaf>(shapes: &Shapes<L>, shape: ShapeId) -> usize
     ensures { result ≡ size_at shapes.now shape.0 }
 {
     match shapes.get(shape) {
-        Some(shape) => shape.layout.size,
+        Some(shape) => size_in(shape.layout),
         None => 0,
+    }
+}
+
+// The size of a layout in bytes, 0 where it is unsized.
+fn size_in(layout: ShapeLayout) -> usize
+    ensures { result ≡ size_of_layout layout }
+{
+    match layout {
+        ShapeLayout::Sized(layout) => layout.size,
+        ShapeLayout::Unsized => 0,
     }
 }

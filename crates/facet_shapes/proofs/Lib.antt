@@ -1,1 +1,3 @@
+mod Drafts
 mod Preludes
+mod Scalars

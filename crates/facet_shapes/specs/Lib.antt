@@ -1,3 +1,4 @@
+pub mod Plain
 pub mod Prelude
 pub mod Registry
 pub mod ValueKind

@@ -1,9 +1,14 @@
 -- The registry: shapes under their numbers, and how many of them are sealed.
-use Rattle.std.specs.Prelude.{ℕ, List, Option, None, Some, slice_get}
-use Rattle.facet_shapes.specs.declared.shape.Shape.{Shape}
+use Rattle.std.specs.Prelude.{ℕ, Bool, false, List, [], ◌∷◌, ◌++◌, Option, None, Some, length, slice_get, take}
+use Rattle.facet_base.specs.declared.characteristic.Characteristic.{Characteristic}
+use Rattle.facet_base.specs.declared.layout.ShapeLayout.{ShapeLayout}
+use Rattle.facet_base.specs.declared.layout.ShapeLayout.TheVariants as layout
+use Rattle.facet_shape.specs.declared.shape.Shape.{Shape}
+use Rattle.facet_shape.specs.Capability.{can}
+use Rattle.facet_shapes.specs.Plain.{plain_shape}
 use Rattle.facet_shapes.specs.declared.value_kind.ValueKind.{ValueKind}
 use Rattle.facet_shapes.specs.declared.value_kind.ValueKind.TheVariants as kind
-use Rattle.facet_shapes.specs.ValueKind.{described_kind}
+use Rattle.facet_shapes.specs.ValueKind.{kind_of_shape}
 
 -- the shapes in order of their numbers, of which the first ones are sealed
 pub record Registry : Type 0 where
@@ -14,24 +19,46 @@ pub record Registry : Type 0 where
 abbrev pub shape_at : Registry → ℕ → Option Shape
 shape_at registry s = slice_get registry.shapes s
 
--- what the values of a shape are
-abbrev pub kind_of_shape : Shape → ValueKind
-kind_of_shape shape = described_kind shape.scalar
-
--- the same of the shape of a number; there are no values where there is no shape
-abbrev pub kind_of_found : Option Shape → ValueKind
-kind_of_found None = kind.NoValue
-kind_of_found (Some shape) = kind_of_shape shape
+-- what the values of a shape are, where there is one; else there are none
+abbrev pub kind_of_found : List Shape → Option Shape → ValueKind
+kind_of_found shapes None = kind.NoValue
+kind_of_found shapes (Some shape) = kind_of_shape shapes shape
 
 -- what the values of the shape of a number are
 abbrev pub kind_at : Registry → ℕ → ValueKind
-kind_at registry s = kind_of_found (shape_at registry s)
+kind_at registry s = kind_of_found registry.shapes (shape_at registry s)
 
--- the size in bytes of a shape, 0 where there is none
+-- the size in bytes of a layout, 0 where it is unsized
+abbrev pub size_of_layout : ShapeLayout → ℕ
+size_of_layout (layout.Sized l) = l.size
+size_of_layout layout.Unsized = 0
+
+-- the same of a shape, 0 where there is none
 abbrev pub size_of_found : Option Shape → ℕ
 size_of_found None = 0
-size_of_found (Some shape) = shape.layout.size
+size_of_found (Some shape) = size_of_layout shape.layout
 
 -- the size in bytes of the shape of a number
 abbrev pub size_at : Registry → ℕ → ℕ
 size_at registry s = size_of_found (shape_at registry s)
+
+-- the shape under another number, by its lists alone
+abbrev pub numbered : ℕ → Shape → Shape
+numbered n shape = plain_shape (record shape { id = record { 0 = n } })
+
+-- the registry with one draft more, under the next number
+abbrev pub with_draft : Registry → Shape → Registry
+with_draft registry shape = record registry { shapes = registry.shapes ++ numbered (length registry.shapes) shape ∷ [] }
+
+-- the registry without its drafts
+abbrev pub without_drafts : Registry → Registry
+without_drafts registry = record registry { shapes = take registry.sealed registry.shapes }
+
+-- the values of a shape can do that, where there is one
+abbrev pub offered_by : Option Shape → Characteristic → Bool
+offered_by None c = false
+offered_by (Some shape) c = can shape c
+
+-- the values of the shape of a number can do that
+abbrev pub offers : Registry → ℕ → Characteristic → Bool
+offers registry s c = offered_by (shape_at registry s) c

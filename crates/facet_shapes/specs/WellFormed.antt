@@ -1,6 +1,7 @@
 -- What holds of every registry.
 use Rattle.std.specs.Prelude.{◌≡◌, ℕ, ◌<◌, ◌≤◌, take, length}
 use Rattle.facet_base.specs.declared.scalar_type.ScalarType.{ScalarType}
+use Rattle.facet_leaf.specs.LeafModel.{LeafModel}
 use Rattle.facet_shapes.specs.declared.value_kind.ValueKind.TheVariants as kind
 use Rattle.facet_shapes.specs.Prelude.{prelude}
 use Rattle.facet_shapes.specs.Registry.{Registry, kind_at, size_at}
@@ -10,8 +11,8 @@ abbrev pub IsWellFormed : Registry → ℕ → Type 0
 IsWellFormed registry s = (k : ScalarType) → kind_at registry s ≡ kind.Leaf k → 0 < size_at registry s
 
 -- it begins with the prelude, and each sealed shape is well formed
-pub record IsRegistry (registry : Registry) : Type 0 where
-  pub begins : take 16 registry.shapes ≡ prelude.shapes
+pub record IsRegistry {L : Type 0} (m : LeafModel L) (registry : Registry) : Type 0 where
+  pub begins : take 16 registry.shapes ≡ (prelude m).shapes
   pub least : 16 ≤ registry.sealed
   pub within : registry.sealed ≤ length registry.shapes
   pub well_formed : (s : ℕ) → s < registry.sealed → IsWellFormed registry s

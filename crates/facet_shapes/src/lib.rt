@@ -1,10 +1,17 @@
 //! The registry: descriptions of types under numbers, of which the first ones are sealed.
 #![tactic(auto)]
 
+mod capability;
 mod registry;
-mod shape;
+mod scalar_shape;
+mod shape_list;
+#[cfg(test)]
+mod tests;
 mod value_kind;
 
+pub use capability::{
+    all, all_default, all_hash, all_ord, all_partial_eq, all_partial_ord, any, none,
+};
+pub use facet_shape::Shape;
 pub use registry::Shapes;
-pub use shape::Shape;
 pub use value_kind::ValueKind;

@@ -30,7 +30,7 @@ own-same : {L : Type 0} (of : ValueKind) (found other : Option (Item L)) → ((k
 own-same (kind.Leaf k) found other same = same k refl
 own-same _ found other same = refl
 
-module _ {L : Type 0} (m : LeafModel L) (registry : Registry) (is : IsRegistry registry) where
+module _ {L : Type 0} (m : LeafModel L) (registry : Registry) (is : IsRegistry m registry) where
   -- the first place, at the second's offset in the second's block
   abbrev at : Place L → Place L → Place L
   at p q = record { shape = p.shape; block = q.block; offset = q.offset }

@@ -16,6 +16,6 @@ pub fn one_reading<L: Leaf>()
 /// What a place reads as depends on the items of its range alone: a place of the same shape whose range
 /// holds the same items reads as the same value, wherever it stands.
 pub fn same_reading<L: Leaf>()
-    ensures { (registry : Registry) (p q : Place L) (v : Value L) → IsRegistry registry → p.shape < registry.sealed →
+    ensures { (registry : Registry) (p q : Place L) (v : Value L) → IsRegistry L.model registry → p.shape < registry.sealed →
         HoldsSame registry p q → Reads L.model registry p v → Reads L.model registry q v }
 {}

@@ -1,0 +1,83 @@
+ghost use Rattle.std.specs.Prelude.{◌≡◌, not};
+ghost use Rattle.std.specs.List.{list_all, list_any};
+ghost use Rattle.facet_shapes.specs.Registry.{offers};
+
+use crate::registry::Shapes;
+use facet_base::{Characteristic, ShapeId};
+use facet_leaf::Leaf;
+
+/// Whether the values of each shape can do that. Where there is no shape under a number, nothing can be done.
+pub fn all<L: Leaf>(shapes: &Shapes<L>, c: Characteristic, ids: &[ShapeId]) -> bool
+    ensures { result ≡ list_all (λ id. offers shapes.now id.0 c) ids.now }
+{
+    for id in ids {
+        if !can(shapes, *id, c) {
+            return false;
+        }
+    }
+    true
+}
+
+/// Whether the values of one of the shapes can do that.
+pub fn any<L: Leaf>(shapes: &Shapes<L>, c: Characteristic, ids: &[ShapeId]) -> bool
+    ensures { result ≡ list_any (λ id. offers shapes.now id.0 c) ids.now }
+{
+    for id in ids {
+        if can(shapes, *id, c) {
+            return true;
+        }
+    }
+    false
+}
+
+/// Whether the values of none of the shapes can do that.
+pub fn none<L: Leaf>(shapes: &Shapes<L>, c: Characteristic, ids: &[ShapeId]) -> bool
+    ensures { result ≡ not (list_any (λ id. offers shapes.now id.0 c) ids.now) }
+{
+    !any(shapes, c, ids)
+}
+
+/// Whether the values of each shape have a default.
+pub fn all_default<L: Leaf>(shapes: &Shapes<L>, ids: &[ShapeId]) -> bool
+    ensures { result ≡ list_all (λ id. offers shapes.now id.0 Characteristic.Default) ids.now }
+{
+    all(shapes, Characteristic::Default, ids)
+}
+
+/// Whether the values of each shape have an equality.
+pub fn all_partial_eq<L: Leaf>(shapes: &Shapes<L>, ids: &[ShapeId]) -> bool
+    ensures { result ≡ list_all (λ id. offers shapes.now id.0 Characteristic.PartialEq) ids.now }
+{
+    all(shapes, Characteristic::PartialEq, ids)
+}
+
+/// Whether the values of each shape have a partial order.
+pub fn all_partial_ord<L: Leaf>(shapes: &Shapes<L>, ids: &[ShapeId]) -> bool
+    ensures { result ≡ list_all (λ id. offers shapes.now id.0 Characteristic.PartialOrd) ids.now }
+{
+    all(shapes, Characteristic::PartialOrd, ids)
+}
+
+/// Whether the values of each shape have a total order.
+pub fn all_ord<L: Leaf>(shapes: &Shapes<L>, ids: &[ShapeId]) -> bool
+    ensures { result ≡ list_all (λ id. offers shapes.now id.0 Characteristic.Ord) ids.now }
+{
+    all(shapes, Characteristic::Ord, ids)
+}
+
+/// Whether the values of each shape can be hashed.
+pub fn all_hash<L: Leaf>(shapes: &Shapes<L>, ids: &[ShapeId]) -> bool
+    ensures { result ≡ list_all (λ id. offers shapes.now id.0 Characteristic.Hash) ids.now }
+{
+    all(shapes, Characteristic::Hash, ids)
+}
+
+// Whether the values of the shape of a number can do that.
+fn can<L: Leaf>(shapes: &Shapes<L>, id: ShapeId, c: Characteristic) -> bool
+    ensures { result ≡ offers shapes.now id.0 c }
+{
+    match shapes.get(id) {
+        Some(shape) => shape.is(c),
+        None => false,
+    }
+}
