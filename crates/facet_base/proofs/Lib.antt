@@ -1,4 +1,5 @@
-pub mod Hashes
 mod BitSets
+pub mod Hashes
+pub mod Lists
 mod Names
 pub mod Numerals

@@ -43,8 +43,8 @@ plus : (text : List ℕ) → without_leading_plus text ≡ without_plus text
 plus [] = refl
 plus (b ∷ bytes) = behind_plus b bytes (nat_eq b 43)
 
-pub unsigned-parsed : {E : Type 0} (k : ℕ) (text : List ℕ) (r : Result ℕ E) → ParsesUnsigned k 10 text r → result_ok r ≡ unsigned_below (2 ^ k) text
-unsigned-parsed k text r h = below (2 ^ k) (without_plus text) r (subst (λ ds. OkIff r (IsNumeral 10 ds × (digits_value 10 ds < 2 ^ k)) (digits_value 10 ds)) (plus text) h)
+pub unsigned_parsed : {E : Type 0} (k : ℕ) (text : List ℕ) (r : Result ℕ E) → ParsesUnsigned k 10 text r → result_ok r ≡ unsigned_below (2 ^ k) text
+unsigned_parsed k text r h = below (2 ^ k) (without_plus text) r (subst (λ ds. OkIff r (IsNumeral 10 ds × (digits_value 10 ds < 2 ^ k)) (digits_value 10 ds)) (plus text) h)
 
 -- the answer is a number's, exactly where digits write one below the limit
 abbrev Reads : {T E : Type 0} → (ℕ → T) → ℕ → List ℕ → Result T E → Type 0
@@ -66,9 +66,9 @@ choice : {X Y : Type 0} (f : X → Y) (y : Y) (test : Bool) (a b : X) → (test 
 choice f y true a b h i = h refl
 choice f y false a b h i = i refl
 
-pub signed-parsed : {E : Type 0} (w : Width) (text : List ℕ) (r : Result ℤ E) → ParsesSigned w 10 text r → result_ok r ≡ signed_in (hbits w) text
-signed-parsed w [] r h = read pos (2 ^ hbits w) [] r (parse_signed_plain decimal_digits w [] r h (omega arith) (omega arith))
-signed-parsed w (b ∷ text) r h =
+pub signed_parsed : {E : Type 0} (w : Width) (text : List ℕ) (r : Result ℤ E) → ParsesSigned w 10 text r → result_ok r ≡ signed_in (hbits w) text
+signed_parsed w [] r h = read pos (2 ^ hbits w) [] r (parse_signed_plain decimal_digits w [] r h (omega arith) (omega arith))
+signed_parsed w (b ∷ text) r h =
     choice (λ z. z) (result_ok r) (nat_eq b 45) _ _
     (λ minus. read (λ n. neg_ℤ (pos n)) (2 ^ hbits w + 1) text r (at_most _ _ _ _ _ r (parse_signed_minus decimal_digits w (b ∷ text) r h (grind (arith, nat_tests)))))
     (λ no_minus. choice (λ ds. option_map pos (number_below (2 ^ hbits w) ds)) (result_ok r) (nat_eq b 43) text (b ∷ text)

@@ -78,6 +78,16 @@ impl<T> Many<T> {
     {
         self.items.reserve(n)
     }
+
+    /// Takes the item at index `i` out. The later ones move down.
+    pub fn remove(&mut self, i: usize) -> T
+        requires { i < length self.old.items }
+        ensures item { slice_get self.old.items i ≡ Some result }
+        ensures rest { self.new.items ≡ remove self.old.items i }
+        ensures spare { self.old.spare + 1 ≤ self.new.spare }
+    {
+        self.items.remove(i)
+    }
 }
 
 impl<T: Drop> Many<T> {
@@ -90,15 +100,5 @@ impl<T: Drop> Many<T> {
     {
         self.items.push(x)?;
         Ok(())
-    }
-
-    /// Takes the item at place `i` out. The later ones move down.
-    pub fn remove(&mut self, i: usize) -> T
-        requires { i < length self.old.items }
-        ensures item { slice_get self.old.items i ≡ Some result }
-        ensures rest { self.new.items ≡ remove self.old.items i }
-        ensures spare { self.old.spare + 1 ≤ self.new.spare }
-    {
-        self.items.remove(i)
     }
 }

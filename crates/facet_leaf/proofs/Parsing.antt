@@ -11,7 +11,7 @@ use Rattle.std.specs.Result.{result_ok}
 use Rattle.std.specs.Str.{bytes_eq, chars, IsUtf8, encode_utf8_all, all_scalars}
 use Rattle.std.specs.Str.Parse.{ParsesSigned, ParsesBool, ParsesChar, true_text, false_text}
 use Rattle.facet_base.specs.Numeral.{signed_in}
-use Rattle.facet_base.proofs.Numerals.{signed-parsed}
+use Rattle.facet_base.proofs.Numerals.{signed_parsed}
 use Rattle.facet_leaf.specs.ScalarTexts.{truth_of, only}
 
 unequal : (xs ys : List ℕ) → (xs ≢ ys) → bytes_eq xs ys ≡ false
@@ -38,5 +38,5 @@ character-parsed text (Err e) u h = not_alone text u h (chars text) refl
 -- a signed number that is stored in its width
 pub signed-stored : {E : Type 0} (w : Width) (text : List ℕ) (x : ℤ) (r : Result ℤ E) → Some x ≡ result_ok r → ParsesSigned w 10 text r → Some (to_z w (of_z w x)) ≡ signed_in (hbits w) text
 signed-stored {E} w text x (Ok y) e h =
-    ap (option_map (λ z. to_z w (of_z w z))) e ∙ ap Some (to_z-of_z w y (subst (SFits w) (sym h.1) h.0.1)) ∙ signed-parsed {E = E} w text (Ok y) h
+    ap (option_map (λ z. to_z w (of_z w z))) e ∙ ap Some (to_z-of_z w y (subst (SFits w) (sym h.1) h.0.1)) ∙ signed_parsed {E = E} w text (Ok y) h
 signed-stored w text x (Err f) e h = cc

@@ -1,13 +1,13 @@
 use Rattle.std.proofs.Common.{◌∙◌, ap, option_map}
-use Rattle.facet_base.proofs.Numerals.{unsigned-parsed}
+use Rattle.facet_base.proofs.Numerals.{unsigned_parsed}
 use Rattle.facet_leaf.specs.ScalarTexts.{scalar_parsed}
 use Rattle.facet_leaf.specs.declared.scalar.Scalar.TheVariants as scalar
 use Rattle.facet_leaf.proofs.parse.parse_u16.Goals as goal
 
 pub returns-in_err-ok : goal.returns-in_err-ok
 unfolding scalar_parsed
-returns-in_err-ok c = c.from_residual.ensures ∙ ap (option_map scalar.U16) (c.in_err-ok.ensures.value ∙ unsigned-parsed 16 c.args.text.now _ c.parse.ensures.value.0)
+returns-in_err-ok c = c.from_residual.ensures ∙ ap (option_map scalar.U16) (c.in_err-ok.ensures.value ∙ unsigned_parsed 16 c.args.text.now _ c.parse.ensures.value.0)
 
 pub returns : goal.returns
 unfolding scalar_parsed
-returns c = ap (option_map scalar.U16) (c.in_ok-ok.ensures.value ∙ unsigned-parsed 16 c.args.text.now _ c.parse.ensures.value.0)
+returns c = ap (option_map scalar.U16) (c.in_ok-ok.ensures.value ∙ unsigned_parsed 16 c.args.text.now _ c.parse.ensures.value.0)
