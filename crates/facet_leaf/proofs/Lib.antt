@@ -1,4 +1,5 @@
 mod Made
+pub mod OneLines
 pub mod Parsing
 pub mod Proxies
 pub mod Quoted

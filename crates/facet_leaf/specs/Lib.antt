@@ -2,6 +2,7 @@ pub mod Hash
 pub mod HashWrite
 pub mod LeafLaws
 pub mod LeafModel
+pub mod OneLine
 pub mod Proxy
 pub mod Scalar
 pub mod ScalarLaws
