@@ -11,3 +11,11 @@ pub record Kept (T : Type 0) : Type 0 where
 abbrev pub kept_code : {T : Type 0} → Coded T → Coded (Kept T)
 kept_code {T} code =
     code_by (List T × ℕ) (coded× (coded_list code) coded_ℕ) (λ k. (k.items, k.spare)) (λ p. record { items = p.0; spare = p.1 }) (λ _. refl)
+
+-- the list of these items, with no room for more
+abbrev pub of_items : {T : Type 0} → List T → Kept T
+of_items items = record { items = items; spare = 0 }
+
+-- a list as it is compared by its items alone
+abbrev pub without_spare : {T : Type 0} → Kept T → Kept T
+without_spare kept = of_items kept.items

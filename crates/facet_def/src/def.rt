@@ -54,43 +54,43 @@ impl Def {
 
     /// Begins the definition of a map of these members.
     pub fn map_builder(vtable: MapVTable, k: ShapeId, v: ShapeId) -> DefMapBuilder
-        ensures { result ≡ record { vtable = vtable; k = k; v = v } }
+        ensures { result.0 ≡ record { vtable = vtable; k = k; v = v } }
     {
-        DefMapBuilder::new(MapDef::new(vtable, k, v))
+        DefMapBuilder(MapDef::new(vtable, k, v))
     }
 
     /// Begins the definition of a set of these members.
     pub fn set_builder(vtable: SetVTable, t: ShapeId) -> DefSetBuilder
-        ensures { result ≡ record { vtable = vtable; t = t } }
+        ensures { result.0 ≡ record { vtable = vtable; t = t } }
     {
-        DefSetBuilder::new(SetDef::new(vtable, t))
+        DefSetBuilder(SetDef::new(vtable, t))
     }
 
-    /// Begins the definition of a list of these members, without operations that ask for the type of its elements.
+    /// Begins the definition of a list of these members, without operations that need the type of its elements.
     pub fn list_builder(vtable: ListVTable, t: ShapeId) -> DefListBuilder
-        ensures { result ≡ record { vtable = vtable; type_ops = None; t = t } }
+        ensures { result.0 ≡ record { vtable = vtable; type_ops = None; t = t } }
     {
-        DefListBuilder::new(ListDef::new(vtable, t))
+        DefListBuilder(ListDef::new(vtable, t))
     }
 
     /// Begins the definition of an array of these members.
     pub fn array_builder(vtable: ArrayVTable, t: ShapeId, n: usize) -> DefArrayBuilder
-        ensures { result ≡ record { vtable = vtable; t = t; n = n } }
+        ensures { result.0 ≡ record { vtable = vtable; t = t; n = n } }
     {
-        DefArrayBuilder::new(ArrayDef::new(vtable, t, n))
+        DefArrayBuilder(ArrayDef::new(vtable, t, n))
     }
 
     /// Begins the definition of an option of these members.
     pub fn option_builder(vtable: OptionVTable, t: ShapeId) -> DefOptionBuilder
-        ensures { result ≡ record { vtable = vtable; t = t } }
+        ensures { result.0 ≡ record { vtable = vtable; t = t } }
     {
-        DefOptionBuilder::new(OptionDef::new(vtable, t))
+        DefOptionBuilder(OptionDef::new(vtable, t))
     }
 
     /// Begins the definition of a result of these members.
     pub fn result_builder(vtable: ResultVTable, t: ShapeId, e: ShapeId) -> DefResultBuilder
-        ensures { result ≡ record { vtable = vtable; t = t; e = e } }
+        ensures { result.0 ≡ record { vtable = vtable; t = t; e = e } }
     {
-        DefResultBuilder::new(ResultDef::new(vtable, t, e))
+        DefResultBuilder(ResultDef::new(vtable, t, e))
     }
 }

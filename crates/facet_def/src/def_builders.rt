@@ -7,178 +7,81 @@ use crate::map_def::MapDef;
 use crate::option_def::OptionDef;
 use crate::result_def::ResultDef;
 use crate::set_def::SetDef;
-use std::marker::Model;
 
-/// Makes the definition of a map. Contracts see the record.
+/// Builds the definition of a map.
 #[derive(Drop)]
-pub struct DefMapBuilder {
-    members: MapDef,
-}
-
-impl Model for DefMapBuilder {
-    ghost use Rattle.facet_def.specs.declared.map_def.MapDef.{MapDef};
-
-    ghost Value = { MapDef };
-
-    ghost view = { λ b. b.members };
-}
+pub struct DefMapBuilder(pub MapDef);
 
 impl DefMapBuilder {
-    pub(crate) fn new(members: MapDef) -> DefMapBuilder
-        ensures { result ≡ members }
-    {
-        DefMapBuilder { members }
-    }
-
-    /// The definition over the record.
+    /// The definition of the record.
     pub fn build(self) -> Def
-        ensures { result ≡ Def.Map self }
+        ensures { result ≡ Def.Map self.0 }
     {
-        Def::Map(self.members)
+        Def::Map(self.0)
     }
 }
 
-/// Makes the definition of a set. Contracts see the record.
+/// Builds the definition of a set.
 #[derive(Drop)]
-pub struct DefSetBuilder {
-    members: SetDef,
-}
-
-impl Model for DefSetBuilder {
-    ghost use Rattle.facet_def.specs.declared.set_def.SetDef.{SetDef};
-
-    ghost Value = { SetDef };
-
-    ghost view = { λ b. b.members };
-}
+pub struct DefSetBuilder(pub SetDef);
 
 impl DefSetBuilder {
-    pub(crate) fn new(members: SetDef) -> DefSetBuilder
-        ensures { result ≡ members }
-    {
-        DefSetBuilder { members }
-    }
-
-    /// The definition over the record.
+    /// The definition of the record.
     pub fn build(self) -> Def
-        ensures { result ≡ Def.Set self }
+        ensures { result ≡ Def.Set self.0 }
     {
-        Def::Set(self.members)
+        Def::Set(self.0)
     }
 }
 
-/// Makes the definition of a list. Contracts see the record.
+/// Builds the definition of a list.
 #[derive(Drop)]
-pub struct DefListBuilder {
-    members: ListDef,
-}
-
-impl Model for DefListBuilder {
-    ghost use Rattle.facet_def.specs.declared.list_def.ListDef.{ListDef};
-
-    ghost Value = { ListDef };
-
-    ghost view = { λ b. b.members };
-}
+pub struct DefListBuilder(pub ListDef);
 
 impl DefListBuilder {
-    pub(crate) fn new(members: ListDef) -> DefListBuilder
-        ensures { result ≡ members }
-    {
-        DefListBuilder { members }
-    }
-
-    /// The definition over the record.
+    /// The definition of the record.
     pub fn build(self) -> Def
-        ensures { result ≡ Def.List self }
+        ensures { result ≡ Def.List self.0 }
     {
-        Def::List(self.members)
+        Def::List(self.0)
     }
 }
 
-/// Makes the definition of an array. Contracts see the record.
+/// Builds the definition of an array.
 #[derive(Drop)]
-pub struct DefArrayBuilder {
-    members: ArrayDef,
-}
-
-impl Model for DefArrayBuilder {
-    ghost use Rattle.facet_def.specs.declared.array_def.ArrayDef.{ArrayDef};
-
-    ghost Value = { ArrayDef };
-
-    ghost view = { λ b. b.members };
-}
+pub struct DefArrayBuilder(pub ArrayDef);
 
 impl DefArrayBuilder {
-    pub(crate) fn new(members: ArrayDef) -> DefArrayBuilder
-        ensures { result ≡ members }
-    {
-        DefArrayBuilder { members }
-    }
-
-    /// The definition over the record.
+    /// The definition of the record.
     pub fn build(self) -> Def
-        ensures { result ≡ Def.Array self }
+        ensures { result ≡ Def.Array self.0 }
     {
-        Def::Array(self.members)
+        Def::Array(self.0)
     }
 }
 
-/// Makes the definition of an option. Contracts see the record.
+/// Builds the definition of an option.
 #[derive(Drop)]
-pub struct DefOptionBuilder {
-    members: OptionDef,
-}
-
-impl Model for DefOptionBuilder {
-    ghost use Rattle.facet_def.specs.declared.option_def.OptionDef.{OptionDef};
-
-    ghost Value = { OptionDef };
-
-    ghost view = { λ b. b.members };
-}
+pub struct DefOptionBuilder(pub OptionDef);
 
 impl DefOptionBuilder {
-    pub(crate) fn new(members: OptionDef) -> DefOptionBuilder
-        ensures { result ≡ members }
-    {
-        DefOptionBuilder { members }
-    }
-
-    /// The definition over the record.
+    /// The definition of the record.
     pub fn build(self) -> Def
-        ensures { result ≡ Def.Option self }
+        ensures { result ≡ Def.Option self.0 }
     {
-        Def::Option(self.members)
+        Def::Option(self.0)
     }
 }
 
-/// Makes the definition of a result. Contracts see the record.
+/// Builds the definition of a result.
 #[derive(Drop)]
-pub struct DefResultBuilder {
-    members: ResultDef,
-}
-
-impl Model for DefResultBuilder {
-    ghost use Rattle.facet_def.specs.declared.result_def.ResultDef.{ResultDef};
-
-    ghost Value = { ResultDef };
-
-    ghost view = { λ b. b.members };
-}
+pub struct DefResultBuilder(pub ResultDef);
 
 impl DefResultBuilder {
-    pub(crate) fn new(members: ResultDef) -> DefResultBuilder
-        ensures { result ≡ members }
-    {
-        DefResultBuilder { members }
-    }
-
-    /// The definition over the record.
+    /// The definition of the record.
     pub fn build(self) -> Def
-        ensures { result ≡ Def.Result self }
+        ensures { result ≡ Def.Result self.0 }
     {
-        Def::Result(self.members)
+        Def::Result(self.0)
     }
 }

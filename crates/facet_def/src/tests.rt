@@ -5,7 +5,6 @@ use facet_caps::{
     ResultVTable, SetVTable, SliceVTable,
 };
 use facet_desc::{SequenceType, Ty};
-use std::test::Fail;
 
 const ITERATOR: IterVTable = IterVTable {
     next: true,
@@ -72,7 +71,7 @@ const RESULT: ResultVTable = ResultVTable {
     init_err: true,
 };
 
-// A pointer whose weak pointer is of another shape than its pointee.
+// A pointer to the shape 1, with the weak pointer 2 and the strong pointer 4.
 fn pointer(new_into_fn: bool, known: Option<KnownPointer>) -> PointerDef {
     PointerDef {
         vtable: PointerVTable {
@@ -81,15 +80,15 @@ fn pointer(new_into_fn: bool, known: Option<KnownPointer>) -> PointerDef {
         },
         pointee: Some(ShapeId(1)),
         weak: Some(ShapeId(2)),
-        strong: None,
+        strong: Some(ShapeId(4)),
         flags: PointerFlags::ATOMIC,
         known,
     }
 }
 
-// A definition of the case at a place, in the order of the enum.
-fn definition(place: usize) -> Def {
-    match place {
+// A definition of the case at an index, in the order of the enum.
+fn definition(case: usize) -> Def {
+    match case {
         0 => Def::Undefined,
         1 => Def::Scalar,
         2 => Def::map_builder(MAP, ShapeId(3), ShapeId(5)).build(),
@@ -105,7 +104,7 @@ fn definition(place: usize) -> Def {
     }
 }
 
-fn place_of(def: &Def) -> usize {
+fn case_of(def: &Def) -> usize {
     match def {
         Def::Undefined => 0,
         Def::Scalar => 1,
@@ -122,9 +121,9 @@ fn place_of(def: &Def) -> usize {
     }
 }
 
-// What the call for the case at a place hands back.
-fn handed_back(place: usize, def: Def) -> Option<Def> {
-    match place {
+// What the call for the case at an index hands back.
+fn handed_back(case: usize, def: Def) -> Option<Def> {
+    match case {
         1 => def.into_scalar().err(),
         2 => def.into_map().err(),
         3 => def.into_set().err(),
@@ -142,117 +141,100 @@ fn handed_back(place: usize, def: Def) -> Option<Def> {
 #[test]
 fn a_definition_is_handed_back_by_the_calls_for_other_cases_alone(rt: HostRuntime) {
     for call in 1..12 {
-        for place in 0..12 {
-            let back = handed_back(call, definition(place)).map(|def| place_of(&def));
-            let wanted = if call == place { None } else { Some(place) };
-            assert_eq!(rt; back, wanted, "case {place} by the call for case {call}");
+        for case in 0..12 {
+            let back = handed_back(call, definition(case)).map(|def| case_of(&def));
+            let expected = if call == case { None } else { Some(case) };
+            assert_eq!(rt; back, expected, "case {case} by the call for case {call}");
         }
     }
 }
 
-#[test]
-fn a_record_has_the_members_that_its_builder_was_given(rt: HostRuntime) -> Result<(), Fail> {
-    let map = definition(2).into_map().ok().ok_or("a map")?;
-    assert_eq!(rt; (map.k(), map.v()), (ShapeId(3), ShapeId(5)));
-    assert_eq!(rt; map.vtable.pair_stride, 24);
-    let array = definition(5).into_array().ok().ok_or("an array")?;
-    assert_eq!(rt; (array.t(), array.n), (ShapeId(3), 7));
-    let outcome = definition(9).into_result().ok().ok_or("a result")?;
-    assert_eq!(rt; (outcome.t(), outcome.e()), (ShapeId(3), ShapeId(5)));
-    let set = definition(3).into_set().ok().ok_or("a set")?;
-    let list = definition(4).into_list().ok().ok_or("a list")?;
-    let nd_array = definition(6)
-        .into_ndarray()
-        .ok()
-        .ok_or("an array of dimensions")?;
-    let slice = definition(7).into_slice().ok().ok_or("a slice")?;
-    let option = definition(8).into_option().ok().ok_or("an option")?;
-    assert_eq!(rt;
-        [set.t(), list.t(), nd_array.t(), slice.t(), option.t()],
-        [ShapeId(3); 5]
-    );
-    let arc = definition(10).into_pointer().ok().ok_or("a pointer")?;
-    assert_eq!(rt;
-        (arc.pointee(), arc.weak(), arc.strong()),
-        (Some(ShapeId(1)), Some(ShapeId(2)), None)
-    );
-    Ok(())
-}
-
-#[test]
-fn the_type_of_an_array_and_a_slice_is_a_sequence(rt: HostRuntime) {
-    for place in 0..12 {
-        let wanted = match place {
-            5 => "array",
-            7 => "slice",
-            _ => "opaque",
-        };
-        assert_eq!(rt;
-            definition(place).default_type().kind_str(),
-            wanted,
-            "case {place}"
-        );
+// The shapes that a definition names, in the order of its members.
+fn shapes_of(def: &Def) -> [Option<ShapeId>; 3] {
+    match def {
+        Def::Map(map) => [Some(map.k()), Some(map.v()), None],
+        Def::Set(set) => [Some(set.t()), None, None],
+        Def::List(list) => [Some(list.t()), None, None],
+        Def::Array(array) => [Some(array.t()), None, None],
+        Def::NdArray(array) => [Some(array.t()), None, None],
+        Def::Slice(slice) => [Some(slice.t()), None, None],
+        Def::Option(option) => [Some(option.t()), None, None],
+        Def::Result(result) => [Some(result.t()), Some(result.e()), None],
+        Def::Pointer(pointer) => [pointer.pointee(), pointer.weak(), pointer.strong()],
+        _ => [None; 3],
     }
-    let Ty::Sequence(SequenceType::Array(array)) = definition(5).default_type() else {
-        panic!(rt; "the type of an array is none")
-    };
-    assert_eq!(rt; (array.t, array.n), (ShapeId(3), 7));
 }
 
-// The known pointers, and whether they can be made of their pointee.
-fn known_pointers() -> [(KnownPointer, bool); 17] {
-    [
-        (KnownPointer::Box, true),
-        (KnownPointer::Rc, true),
-        (KnownPointer::RcWeak, false),
-        (KnownPointer::Arc, true),
-        (KnownPointer::ArcWeak, false),
-        (KnownPointer::Cow, false),
-        (KnownPointer::Pin, false),
-        (KnownPointer::Cell, false),
-        (KnownPointer::RefCell, false),
-        (KnownPointer::OnceCell, false),
-        (KnownPointer::Mutex, false),
-        (KnownPointer::RwLock, false),
-        (KnownPointer::OnceLock, false),
-        (KnownPointer::LazyLock, false),
-        (KnownPointer::NonNull, false),
-        (KnownPointer::SharedReference, false),
-        (KnownPointer::ExclusiveReference, false),
-    ]
+// The shape of the elements, and how many there are, where the default type of a definition is a sequence.
+fn sequence_of(def: &Def) -> Option<(ShapeId, Option<usize>)> {
+    match def.default_type() {
+        Ty::Sequence(SequenceType::Array(array)) => Some((array.t, Some(array.n))),
+        Ty::Sequence(SequenceType::Slice(slice)) => Some((slice.t, None)),
+        _ => None,
+    }
+}
+
+#[test]
+fn a_definition_names_its_shapes_and_its_sequence(rt: HostRuntime) {
+    let one = [Some(ShapeId(3)), None, None];
+    let two = [Some(ShapeId(3)), Some(ShapeId(5)), None];
+    let three = [Some(ShapeId(1)), Some(ShapeId(2)), Some(ShapeId(4))];
+    for (case, shapes, sequence) in [
+        (1, [None; 3], None),
+        (2, two, None),
+        (3, one, None),
+        (4, one, None),
+        (5, one, Some((ShapeId(3), Some(7)))),
+        (6, one, None),
+        (7, one, Some((ShapeId(3), None))),
+        (8, one, None),
+        (9, two, None),
+        (10, three, None),
+        (11, [None; 3], None),
+    ] {
+        let def = definition(case);
+        let found = (shapes_of(&def), sequence_of(&def));
+        assert_eq!(rt; found, (shapes, sequence), "case {case}");
+    }
 }
 
 #[test]
 fn a_pointer_is_made_of_its_pointee_by_its_operation_or_its_name(rt: HostRuntime) {
-    for (known, wanted) in known_pointers() {
-        let named = pointer(false, Some(known)).constructible_from_pointee();
-        assert_eq!(rt; named, wanted, "{known:?}");
-        assert!(rt;
-            pointer(true, Some(known)).constructible_from_pointee(),
-            "{known:?}"
-        );
+    for (operation, known, expected) in [
+        (true, None, true),
+        (true, Some(KnownPointer::Cow), true),
+        (false, None, false),
+        (false, Some(KnownPointer::Box), true),
+        (false, Some(KnownPointer::Rc), true),
+        (false, Some(KnownPointer::Arc), true),
+        (false, Some(KnownPointer::RcWeak), false),
+        (false, Some(KnownPointer::ArcWeak), false),
+        (false, Some(KnownPointer::NonNull), false),
+        (false, Some(KnownPointer::SharedReference), false),
+    ] {
+        let made = pointer(operation, known).constructible_from_pointee();
+        assert_eq!(rt; made, expected, "{operation} {known:?}");
     }
-    assert!(rt; !pointer(false, None).constructible_from_pointee());
-    assert!(rt; pointer(true, None).constructible_from_pointee());
 }
 
-// A list of which only the operation at a place is offered.
-fn list_with(place: usize) -> ListDef {
+// What a list answers of its operations, of which the one at an index alone is offered.
+fn offered(index: usize) -> [bool; 9] {
     let type_ops = ListTypeOps {
         iter_vtable: ITERATOR,
-        init_in_place_with_capacity: place == 0,
-        push: place == 1,
-        pop: place == 2,
-        set_len: place == 3,
-        as_mut_ptr_typed: place == 4,
-        reserve: place == 5,
-        capacity: place == 6,
-        from_raw_parts: place == 7,
+        init_in_place_with_capacity: index == 0,
+        push: index == 1,
+        pop: index == 2,
+        set_len: index == 3,
+        as_mut_ptr_typed: index == 4,
+        reserve: index == 5,
+        capacity: index == 6,
+        from_raw_parts: index == 7,
     };
-    ListDef::with_type_ops(LIST, type_ops, ShapeId(3))
+    answers(&ListDef::with_type_ops(LIST, type_ops, ShapeId(3)))
 }
 
-fn offered(list: &ListDef) -> [bool; 8] {
+// Its eight operations in order, and then whether its iterator goes backwards.
+fn answers(list: &ListDef) -> [bool; 9] {
     [
         list.init_in_place_with_capacity(),
         list.push(),
@@ -262,22 +244,18 @@ fn offered(list: &ListDef) -> [bool; 8] {
         list.reserve(),
         list.capacity(),
         list.from_raw_parts(),
+        list.iter_vtable()
+            .is_some_and(|iterator| iterator.next_back),
     ]
 }
 
 #[test]
 fn a_list_offers_the_operations_that_it_was_given(rt: HostRuntime) {
-    for place in 0..8 {
-        let mut wanted = [false; 8];
-        wanted[place] = true;
-        let list = list_with(place);
-        assert_eq!(rt; offered(&list), wanted);
-        assert!(rt;
-            list.iter_vtable()
-                .is_some_and(|iterator| iterator.next_back)
-        );
+    for index in 0..8 {
+        let mut expected = [false; 9];
+        expected[index] = true;
+        expected[8] = true;
+        assert_eq!(rt; offered(index), expected);
     }
-    let bare = ListDef::new(LIST, ShapeId(3));
-    assert_eq!(rt; offered(&bare), [false; 8]);
-    assert!(rt; bare.iter_vtable().is_none());
+    assert_eq!(rt; answers(&ListDef::new(LIST, ShapeId(3))), [false; 9]);
 }

@@ -4,3 +4,4 @@ pub mod Layouts
 pub mod Proxy
 pub mod Texts
 pub mod Variants
+pub mod WithoutSpare

@@ -1,5 +1,6 @@
 ghost use Rattle.std.specs.Prelude.{◌≡◌};
-ghost use Rattle.facet_desc.specs.Fields.{IsPlainField};
+ghost use Rattle.facet_desc.specs.Fields.{fresh_field};
+ghost use Rattle.facet_desc.specs.WithoutSpare.{field_without_spare};
 
 use crate::attribute::Attr;
 use crate::field::{DefaultSource, Field};
@@ -24,8 +25,9 @@ impl Model for FieldBuilder {
 
 impl FieldBuilder {
     /// The field of this name and shape at this offset in bytes, with nothing else set. It takes no memory.
+    #[tactic(auto, unfolding(crate::specs::Fields::fresh_field, crate::specs::WithoutSpare::field_without_spare))]
     pub fn new(alloc: Global, name: Text, shape: ShapeId, offset: usize) -> FieldBuilder
-        ensures { IsPlainField result name shape offset }
+        ensures { field_without_spare result ≡ fresh_field name shape offset }
     {
         FieldBuilder {
             field: Field {
@@ -49,7 +51,7 @@ impl FieldBuilder {
 
     /// The same as `new`.
     pub fn new_lazy(alloc: Global, name: Text, shape: ShapeId, offset: usize) -> FieldBuilder
-        ensures { IsPlainField result name shape offset }
+        ensures { field_without_spare result ≡ fresh_field name shape offset }
     {
         FieldBuilder::new(alloc, name, shape, offset)
     }

@@ -1,4 +1,6 @@
-ghost use Rattle.std.specs.Prelude.{◌≡◌, []};
+ghost use Rattle.std.specs.Prelude.{◌≡◌};
+ghost use Rattle.facet_desc.specs.Variants.{unit_struct};
+ghost use Rattle.facet_desc.specs.WithoutSpare.{struct_without_spare};
 
 use crate::field::Field;
 use crate::repr::Repr;
@@ -25,10 +27,9 @@ pub enum StructKind {
 
 impl StructType {
     /// The struct without fields. It takes no memory.
+    #[tactic(auto, unfolding(crate::specs::Variants::unit_struct, crate::specs::WithoutSpare::struct_without_spare))]
     pub fn unit(alloc: Global) -> StructType
-        ensures kind { result.kind ≡ StructKind.Unit }
-        ensures repr { result.repr ≡ Repr.C }
-        ensures fields { result.fields.items ≡ [] }
+        ensures { struct_without_spare result ≡ unit_struct }
     {
         StructType {
             repr: Repr::C,

@@ -1,5 +1,6 @@
-ghost use Rattle.std.specs.Prelude.{◌≡◌, []};
-ghost use Rattle.facet_desc.specs.Variants.{IsPlainVariant};
+ghost use Rattle.std.specs.Prelude.{◌≡◌};
+ghost use Rattle.facet_desc.specs.Variants.{fresh_variant, unit_struct};
+ghost use Rattle.facet_desc.specs.WithoutSpare.{struct_without_spare, variant_without_spare};
 
 use crate::attribute::Attr;
 use crate::field::Field;
@@ -26,8 +27,9 @@ impl Model for VariantBuilder {
 
 impl VariantBuilder {
     /// The variant of this name and body, with nothing else set. It takes no memory.
+    #[tactic(auto, unfolding(crate::specs::Variants::fresh_variant, crate::specs::WithoutSpare::variant_without_spare))]
     pub fn new(alloc: Global, name: Text, body: StructType) -> VariantBuilder
-        ensures plain { IsPlainVariant result name }
+        ensures fresh { variant_without_spare result ≡ fresh_variant name (struct_without_spare body) }
         ensures body { result.body ≡ body }
     {
         VariantBuilder {
@@ -44,10 +46,7 @@ impl VariantBuilder {
 
     /// The variant of this name without fields, with nothing else set. It takes no memory.
     pub fn unit(alloc: Global, name: Text) -> VariantBuilder
-        ensures plain { IsPlainVariant result name }
-        ensures kind { result.body.kind ≡ StructKind.Unit }
-        ensures repr { result.body.repr ≡ Repr.C }
-        ensures fields { result.body.fields.items ≡ [] }
+        ensures { variant_without_spare result ≡ fresh_variant name unit_struct }
     {
         VariantBuilder::new(alloc, name, StructType::unit(alloc))
     }
@@ -55,7 +54,7 @@ impl VariantBuilder {
     /// The variant of this name with these fields, which are written without their names and lie by Rust's rules,
     /// and with nothing else set. It takes no memory.
     pub fn tuple(alloc: Global, name: Text, fields: Many<Field>) -> VariantBuilder
-        ensures plain { IsPlainVariant result name }
+        ensures fresh { variant_without_spare result ≡ fresh_variant name (struct_without_spare result.body) }
         ensures body { result.body ≡ record { repr = Repr.RUST; kind = StructKind.TupleStruct; fields = fields } }
     {
         let body = StructType {

@@ -1,24 +1,30 @@
 use super::{attribute, list_of_one};
-use crate::{Attr, AttrData, AttrKind, Field, FieldBuilder, StructType, Variant, VariantBuilder};
+use crate::{Attr, AttrData, AttrKind, Field, FieldBuilder, Variant, VariantBuilder};
 use facet_base::{Many, ShapeId, Text};
 use std::alloc::{AllocError, Global};
 use std::test::Fail;
 
-fn field_with(alloc: Global, ns: Option<&str>, key: &str) -> Result<Field, AllocError> {
-    let attributes = list_of_one(alloc, attribute(alloc, ns, key, 0)?)?;
-    let builder = FieldBuilder::new(alloc, Text::new(alloc, "a")?, ShapeId(6), 0);
-    Ok(builder.attributes(attributes).build())
+fn field_with(alloc: Global, name: Text, attributes: Many<Attr>) -> Field {
+    FieldBuilder::new(alloc, name, ShapeId(6), 0)
+        .attributes(attributes)
+        .build()
 }
 
-fn variant_with(alloc: Global, ns: Option<&str>, key: &str) -> Result<Variant, AllocError> {
-    let attributes = list_of_one(alloc, attribute(alloc, ns, key, 0)?)?;
-    let builder = VariantBuilder::unit(alloc, Text::new(alloc, "a")?);
-    Ok(builder.attributes(attributes).build())
+fn variant_with(alloc: Global, name: Text, attributes: Many<Attr>) -> Variant {
+    VariantBuilder::unit(alloc, name)
+        .attributes(attributes)
+        .build()
 }
 
-// Each test of a field by its attributes, and what it answers.
-fn field_tests(field: &Field) -> [(&'static str, bool); 9] {
-    [
+// Each test of a field by its attributes, and what it answers of a field that has one attribute.
+fn field_tests(
+    alloc: Global,
+    ns: Option<&str>,
+    key: &str,
+) -> Result<[(&'static str, bool); 9], AllocError> {
+    let attributes = list_of_one(alloc, attribute(alloc, ns, key, 0)?)?;
+    let field = field_with(alloc, Text::new(alloc, "a")?, attributes);
+    Ok([
         ("is_text", field.is_text()),
         ("is_elements", field.is_elements()),
         ("is_element", field.is_element()),
@@ -28,16 +34,31 @@ fn field_tests(field: &Field) -> [(&'static str, bool); 9] {
         ("is_other", field.is_other()),
         ("is_variant_tag", field.is_variant_tag()),
         ("is_variant_content", field.is_variant_content()),
-    ]
+    ])
 }
 
-// Attributes, and the two tests that hold of a field which has that attribute alone.
-fn field_rows() -> [(
+// Each test of a variant by its attributes, and what it answers of a variant that has one attribute.
+fn variant_tests(
+    alloc: Global,
+    ns: Option<&str>,
+    key: &str,
+) -> Result<[(&'static str, bool); 3], AllocError> {
+    let attributes = list_of_one(alloc, attribute(alloc, ns, key, 0)?)?;
+    let variant = variant_with(alloc, Text::new(alloc, "a")?, attributes);
+    Ok([
+        ("is_text", variant.is_text()),
+        ("is_custom_element", variant.is_custom_element()),
+        ("is_other", variant.is_other()),
+    ])
+}
+
+// Attributes, and the two tests at most that hold of what has that attribute alone.
+fn rows() -> [(
     Option<&'static str>,
     &'static str,
     &'static str,
     &'static str,
-); 16] {
+); 19] {
     [
         (None, "text", "is_text", ""),
         (Some("xml"), "text", "is_text", ""),
@@ -54,45 +75,24 @@ fn field_rows() -> [(
         (None, "other", "is_other", ""),
         (Some("xml"), "other", "", ""),
         (None, "content", "is_variant_content", ""),
+        (None, "custom_element", "is_custom_element", ""),
+        (Some("xml"), "custom_element", "is_custom_element", ""),
+        (Some("json"), "custom_element", "", ""),
         (None, "Text", "", ""),
     ]
 }
 
 #[test]
-fn fields_are_told_by_their_attributes(rt: HostRuntime) -> Result<(), Fail> {
-    for (ns, key, first, second) in field_rows() {
-        let field = field_with(rt.alloc(), ns, key)?;
-        for (name, answer) in field_tests(&field) {
+fn fields_and_variants_are_classed_by_their_attribute(rt: HostRuntime) -> Result<(), Fail> {
+    for (ns, key, first, second) in rows() {
+        for (name, answer) in field_tests(rt.alloc(), ns, key)? {
             let expected = name == first || name == second;
-            assert_eq!(rt; answer, expected, "{name} of {ns:?} {key}");
+            assert_eq!(rt; answer, expected, "{name} of a field with {ns:?} {key}");
         }
-    }
-    Ok(())
-}
-
-// Attributes, and what is_text, is_custom_element and is_other answer of a variant which has that one alone.
-fn variant_rows() -> [(Option<&'static str>, &'static str, [bool; 3]); 7] {
-    [
-        (None, "text", [true, false, false]),
-        (Some("html"), "text", [true, false, false]),
-        (Some("xml"), "custom_element", [false, true, false]),
-        (None, "custom_element", [false, true, false]),
-        (Some("json"), "custom_element", [false, false, false]),
-        (None, "other", [false, false, true]),
-        (Some("html"), "other", [false, false, false]),
-    ]
-}
-
-#[test]
-fn variants_are_told_by_their_attributes(rt: HostRuntime) -> Result<(), Fail> {
-    for (ns, key, expected) in variant_rows() {
-        let variant = variant_with(rt.alloc(), ns, key)?;
-        let answers = [
-            variant.is_text(),
-            variant.is_custom_element(),
-            variant.is_other(),
-        ];
-        assert_eq!(rt; answers, expected, "of {ns:?} {key}");
+        for (name, answer) in variant_tests(rt.alloc(), ns, key)? {
+            let expected = name == first;
+            assert_eq!(rt; answer, expected, "{name} of a variant with {ns:?} {key}");
+        }
     }
     Ok(())
 }
@@ -113,48 +113,61 @@ fn number_in(found: Option<&Attr>) -> Option<i128> {
     }
 }
 
+// What a field and a variant find among the three attributes, and whether they find one.
+fn found(
+    alloc: Global,
+    ns: Option<&str>,
+    key: &str,
+) -> Result<[(Option<i128>, bool); 2], AllocError> {
+    let (name, attributes) = (Text::new(alloc, "a")?, three_attributes(alloc)?);
+    let field = field_with(alloc, name, attributes);
+    let in_field = (number_in(field.get_attr(ns, key)), field.has_attr(ns, key));
+    let (name, attributes) = (Text::new(alloc, "a")?, three_attributes(alloc)?);
+    let variant = variant_with(alloc, name, attributes);
+    let in_variant = (
+        number_in(variant.get_attr(ns, key)),
+        variant.has_attr(ns, key),
+    );
+    Ok([in_field, in_variant])
+}
+
+// The same among the builtin ones.
+fn found_builtin(alloc: Global, key: &str) -> Result<[(Option<i128>, bool); 2], AllocError> {
+    let (name, attributes) = (Text::new(alloc, "a")?, three_attributes(alloc)?);
+    let field = field_with(alloc, name, attributes);
+    let in_field = (
+        number_in(field.get_builtin_attr(key)),
+        field.has_builtin_attr(key),
+    );
+    let (name, attributes) = (Text::new(alloc, "a")?, three_attributes(alloc)?);
+    let variant = variant_with(alloc, name, attributes);
+    let in_variant = (
+        number_in(variant.get_builtin_attr(key)),
+        variant.has_builtin_attr(key),
+    );
+    Ok([in_field, in_variant])
+}
+
 #[test]
 fn the_first_attribute_of_a_namespace_and_key_is_found(rt: HostRuntime) -> Result<(), Fail> {
-    let alloc = rt.alloc();
-    let builder = FieldBuilder::new(alloc, Text::new(alloc, "f")?, ShapeId(6), 0);
-    let field = builder.attributes(three_attributes(alloc)?).build();
-    let body = StructType::unit(alloc);
-    let builder = VariantBuilder::new(alloc, Text::new(alloc, "v")?, body);
-    let variant = builder.attributes(three_attributes(alloc)?).build();
     for (ns, key, expected) in [
         (None, "a", Some(2)),
         (Some("xml"), "a", Some(1)),
         (Some("html"), "a", None),
         (None, "b", None),
     ] {
-        assert_eq!(rt; number_in(field.get_attr(ns, key)), expected);
-        assert_eq!(rt; number_in(variant.get_attr(ns, key)), expected);
-        assert_eq!(rt; field.has_attr(ns, key), expected.is_some());
-        assert_eq!(rt; variant.has_attr(ns, key), expected.is_some());
+        let answers = found(rt.alloc(), ns, key)?;
+        assert_eq!(rt;
+            answers,
+            [(expected, expected.is_some()); 2],
+            "{ns:?} {key}"
+        );
     }
     for (key, expected) in [("a", Some(2)), ("b", None)] {
-        assert_eq!(rt; number_in(field.get_builtin_attr(key)), expected);
-        assert_eq!(rt; number_in(variant.get_builtin_attr(key)), expected);
-        assert_eq!(rt; field.has_builtin_attr(key), expected.is_some());
-        assert_eq!(rt; variant.has_builtin_attr(key), expected.is_some());
+        let answers = found_builtin(rt.alloc(), key)?;
+        assert_eq!(rt; answers, [(expected, expected.is_some()); 2], "{key}");
     }
     Ok(())
-}
-
-// An attribute of each kind of payload, in the order of the kinds below.
-fn attribute_of_each_kind(alloc: Global) -> Result<[Attr; 5], AllocError> {
-    let key = Text::new(alloc, "k")?;
-    Ok([
-        Attr::new(None, key.try_clone(alloc)?, AttrData::Unit),
-        Attr::new(None, key.try_clone(alloc)?, AttrData::Bool(true)),
-        attribute(alloc, Some("xml"), "k", -1)?,
-        Attr::new(
-            None,
-            key.try_clone(alloc)?,
-            AttrData::Text(key.try_clone(alloc)?),
-        ),
-        Attr::new_shape(None, key, ShapeId(6)),
-    ])
 }
 
 fn kinds() -> [AttrKind; 5] {
@@ -167,30 +180,53 @@ fn kinds() -> [AttrKind; 5] {
     ]
 }
 
+// Whether the payload of an attribute is had as each kind, and whether it is builtin.
+fn kinds_of(attribute: Attr) -> ([bool; 5], bool) {
+    let as_kinds = kinds().map(|kind| attribute.get_as(kind).is_some());
+    (as_kinds, attribute.is_builtin())
+}
+
 #[test]
 fn a_payload_is_had_as_its_own_kind_alone(rt: HostRuntime) -> Result<(), Fail> {
-    for (i, attribute) in attribute_of_each_kind(rt.alloc())?.iter().enumerate() {
-        for (j, kind) in kinds().into_iter().enumerate() {
-            assert_eq!(rt; attribute.get_as(kind).is_some(), i == j, "{i} as {j}");
-        }
-        assert_eq!(rt; attribute.is_builtin(), i != 2);
-    }
+    let alloc = rt.alloc();
+    let key = Text::new(alloc, "k")?;
+    let unit = kinds_of(Attr::new(None, key, AttrData::Unit));
+    assert_eq!(rt; unit, ([true, false, false, false, false], true));
+    let key = Text::new(alloc, "k")?;
+    let truth = kinds_of(Attr::new(None, key, AttrData::Bool(true)));
+    assert_eq!(rt; truth, ([false, true, false, false, false], true));
+    let number = kinds_of(attribute(alloc, Some("xml"), "k", -1)?);
+    assert_eq!(rt; number, ([false, false, true, false, false], false));
+    let (key, text) = (Text::new(alloc, "k")?, Text::new(alloc, "v")?);
+    let text = kinds_of(Attr::new(None, key, AttrData::Text(text)));
+    assert_eq!(rt; text, ([false, false, false, true, false], true));
+    let shape = kinds_of(Attr::new_shape(None, Text::new(alloc, "k")?, ShapeId(6)));
+    assert_eq!(rt; shape, ([false, false, false, false, true], true));
     Ok(())
+}
+
+// Whether an attribute is equal to `a` under xml, and that one to it.
+fn equal_to_one(
+    alloc: Global,
+    ns: Option<&str>,
+    key: &str,
+    number: i128,
+) -> Result<[bool; 2], AllocError> {
+    let one = attribute(alloc, Some("xml"), "a", 1)?;
+    let other = attribute(alloc, ns, key, number)?;
+    Ok([one == other, other == one])
 }
 
 #[test]
 fn attributes_are_equal_by_namespace_and_key(rt: HostRuntime) -> Result<(), Fail> {
-    let alloc = rt.alloc();
-    let one = attribute(alloc, Some("xml"), "a", 1)?;
     for (ns, key, number, expected) in [
         (Some("xml"), "a", 2, true),
         (Some("xml"), "b", 1, false),
         (Some("html"), "a", 1, false),
         (None, "a", 1, false),
     ] {
-        let other = attribute(alloc, ns, key, number)?;
-        assert_eq!(rt; one == other, expected, "{ns:?} {key}");
-        assert_eq!(rt; other == one, expected, "{ns:?} {key}");
+        let equal = equal_to_one(rt.alloc(), ns, key, number)?;
+        assert_eq!(rt; equal, [expected; 2], "{ns:?} {key}");
     }
     Ok(())
 }
