@@ -13,9 +13,9 @@ use Rattle.facet_desc.specs.declared.ty.UserType.TheVariants as user
 use Rattle.facet_leaf.specs.LeafModel.{LeafModel}
 use Rattle.facet_shape.specs.declared.shape.Shape.{Shape}
 use Rattle.facet_shapes.specs.declared.value_kind.ValueKind.TheVariants as kind
-use Rattle.facet_shapes.specs.Registry.{Registry, kind_of_found, size_of_found, without_drafts}
+use Rattle.facet_shapes.specs.Registry.{Registry, kind_at, kind_of_found, offered_by, shape_at, size_of_found, without_drafts}
 use Rattle.facet_shapes.specs.ValueKind.{kind_by_type, kind_of_box, kind_of_pointer, kind_by_def, kind_by_scalar}
-use Rattle.facet_shapes.specs.WellFormed.{IsRegistry}
+use Rattle.facet_shapes.specs.WellFormed.{IsRegistry, IsWellFormed}
 
 -- a list and its beginning have the same at a place of the beginning
 slice_get-front : {A : Type 0} (xs ys : List A) (i : ℕ) → i < length xs → slice_get (xs ++ ys) i ≡ slice_get xs i
@@ -64,13 +64,15 @@ leaf_found : (found : Option Shape) (before after : List Shape) (k : ScalarType)
 leaf_found None before after k same = same
 leaf_found (Some shape) before after k same = leaf_among shape.scalar before after shape.def shape.ty k same
 
--- what is well formed among some shapes is so among others, where it is the same shape
-room_still : (before after : List Shape) (s : ℕ) → slice_get after s ≡ slice_get before s
-    → ((k : ScalarType) → kind_of_found before (slice_get before s) ≡ kind.Leaf k → 0 < size_of_found (slice_get before s))
-    → (k : ScalarType) → kind_of_found after (slice_get after s) ≡ kind.Leaf k → 0 < size_of_found (slice_get after s)
-room_still before after s still room k same =
-    let leaf = leaf_found (slice_get before s) before after k (sym (ap (kind_of_found after) still) ∙ same) in
-    subst (λ found. 0 < size_of_found found) (sym still) (room k leaf)
+-- what is well formed in one registry is so in another one that has the same shape under that id
+well_formed_still : {L : Type 0} (m : LeafModel L) (before after : Registry) (s : ℕ) → shape_at after s ≡ shape_at before s → IsWellFormed m before s → IsWellFormed m after s
+well_formed_still m before after s still is =
+    let leaf : (k : ScalarType) → kind_at after s ≡ kind.Leaf k → kind_at before s ≡ kind.Leaf k =
+    λ k same. leaf_found (shape_at before s) before.shapes after.shapes k (sym (ap (kind_of_found after.shapes) still) ∙ same) in
+    record {
+      room = λ k same. subst (λ found. 0 < size_of_found found) (sym still) (is.room k (leaf k same));
+      capable = λ k c same offered. is.capable k c (leaf k same) (sym (ap (λ found. offered_by found c) still) ∙ offered);
+    }
 
 module _ {L : Type 0} (m : LeafModel L) (registry : Registry) (is : IsRegistry m registry) where
   pub registry-with_draft : (shape : Shape) → IsRegistry m (record registry { shapes = registry.shapes ++ shape ∷ [] })
@@ -81,7 +83,7 @@ module _ {L : Type 0} (m : LeafModel L) (registry : Registry) (is : IsRegistry m
         begins = take-front 16 xs drafts (omega (arith, is.least, is.within)) ∙ is.begins;
         least = is.least;
         within = omega (arith, is.within, length-append xs drafts);
-        well_formed = λ s below. room_still xs (xs ++ drafts) s (slice_get-front xs drafts s (omega (arith, below, is.within))) (is.well_formed s below);
+        well_formed = λ s below. well_formed_still m registry (record registry { shapes = xs ++ drafts }) s (slice_get-front xs drafts s (omega (arith, below, is.within))) (is.well_formed s below);
       }
 
   pub registry-without_drafts : IsRegistry m (without_drafts registry)
@@ -92,5 +94,5 @@ module _ {L : Type 0} (m : LeafModel L) (registry : Registry) (is : IsRegistry m
         begins = take-take 16 n xs is.least ∙ is.begins;
         least = is.least;
         within = omega (arith, is.within, length-take n xs);
-        well_formed = λ s below. room_still xs (take n xs) s (slice_get-take n xs s below) (is.well_formed s below);
+        well_formed = λ s below. well_formed_still m registry (without_drafts registry) s (slice_get-take n xs s below) (is.well_formed s below);
       }

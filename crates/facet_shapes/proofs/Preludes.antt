@@ -1,16 +1,21 @@
 -- The registry that has the prelude alone.
-use Rattle.std.proofs.Common.{◌≡◌, ℕ, zero, suc, ◌<◌, Bool, true, List, [], ◌∷◌, length, take, slice_get, nat_lt, refl, sym, ap, ◌∙◌, subst, arith}
+use Rattle.std.proofs.Common.{◌≡◌, ◌≢◌, ℕ, zero, suc, ◌<◌, Bool, true, List, [], ◌∷◌, length, take, slice_get, Option, None, Some, nat_lt, refl, sym, ap, ◌∙◌, subst, arith}
 use Rattle.std.specs.List.{list_all}
 use Rattle.std.proofs.lemmas.Bool.{ltb-true, and_parts}
 use Rattle.std.proofs.lemmas.List.{take_all}
+use Rattle.facet_base.specs.declared.characteristic.Characteristic.{Characteristic}
+use Rattle.facet_base.specs.declared.characteristic.Characteristic.TheVariants as trait
 use Rattle.facet_base.specs.declared.scalar_type.ScalarType.{ScalarType}
+use Rattle.facet_base.specs.declared.scalar_type.ScalarType.TheVariants as scalar
+use Rattle.facet_def.specs.declared.def.Def.TheVariants as def
 use Rattle.facet_leaf.specs.LeafModel.{LeafModel}
+use Rattle.facet_shape.specs.Capability.{can}
 use Rattle.facet_shape.specs.declared.shape.Shape.{Shape}
 use Rattle.facet_shapes.specs.declared.value_kind.ValueKind.{ValueKind}
 use Rattle.facet_shapes.specs.declared.value_kind.ValueKind.TheVariants as kind
-use Rattle.facet_shapes.specs.Prelude.{prelude, scalar_shape}
-use Rattle.facet_shapes.specs.Registry.{Registry, kind_of_found, size_of_layout, size_of_found}
-use Rattle.facet_shapes.specs.ValueKind.{kind_of_shape}
+use Rattle.facet_shapes.specs.Prelude.{prelude, scalar_shape, scalar_ty}
+use Rattle.facet_shapes.specs.Registry.{Registry, kind_of_found, offered_by, size_of_layout, size_of_found}
+use Rattle.facet_shapes.specs.ValueKind.{kind_by_scalar, kind_of_shape}
 use Rattle.facet_shapes.specs.WellFormed.{IsRegistry}
 
 abbrev registry_of : List Shape → ℕ → Registry
@@ -30,7 +35,59 @@ rooms among [] all (suc s) k same = absurd (cc)
 rooms among (shape ∷ shapes) all zero k same = room_by_kind (kind_of_shape among shape) (size_of_layout shape.layout) k (and_parts _ _ all).0 same
 rooms among (shape ∷ shapes) all (suc s) k same = rooms among shapes (and_parts _ _ all).1 s k same
 
+-- a scalar of which there are leaves is none of Unit, and the leaves are of its kind
+leaf_of_scalar : (among : List Shape) (k of : ScalarType) → kind_by_scalar (Some k) among def.Scalar (scalar_ty k) ≡ kind.Leaf of → (k ≢ scalar.Unit) × (k ≡ of)
+leaf_of_scalar among scalar.Unit of same = absurd (cc)
+leaf_of_scalar among scalar.Str of same = absurd (cc)
+leaf_of_scalar among _ of same = (λ unit. cc, cc)
+
 module _ {L : Type 0} (m : LeafModel L) where
+  -- a shape of leaves, where there is one, offers only what the leaf semantics has for their kind
+  record IsCapable (among : List Shape) (found : Option Shape) : Type 0 where
+    pub capable : (of : ScalarType) (c : Characteristic) → kind_of_found among found ≡ kind.Leaf of → offered_by found c ≡ true → m.can of c ≡ true
+
+  abbrev AreCapable : List Shape → List Shape → Type 0
+  AreCapable among [] = Unit {0}
+  AreCapable among (shape ∷ shapes) = IsCapable among (Some shape) × AreCapable among shapes
+
+  capable_at : (among shapes : List Shape) → AreCapable among shapes → (s : ℕ) → IsCapable among (slice_get shapes s)
+  capable_at among [] all zero = record { capable = λ of c same offered. absurd (cc) }
+  capable_at among [] all (suc s) = record { capable = λ of c same offered. absurd (cc) }
+  capable_at among (shape ∷ shapes) all zero = all.0
+  capable_at among (shape ∷ shapes) all (suc s) = capable_at among shapes all.1 s
+
+  capable_scalar : (id : ℕ) (identifier : List ℕ) (size align : ℕ) (k : ScalarType) (c : Characteristic) → k ≢ scalar.Unit
+      → can (scalar_shape m id identifier size align k) c ≡ m.can k c
+  unfolding scalar_shape
+  capable_scalar id identifier size align scalar.Unit c other = absurd (other refl)
+  capable_scalar id identifier size align _ trait.Clone other = refl
+  capable_scalar id identifier size align _ trait.Display other = refl
+  capable_scalar id identifier size align _ trait.Debug other = refl
+  capable_scalar id identifier size align _ trait.PartialEq other = refl
+  capable_scalar id identifier size align _ trait.PartialOrd other = refl
+  capable_scalar id identifier size align _ trait.Ord other = refl
+  capable_scalar id identifier size align _ trait.Hash other = refl
+  capable_scalar id identifier size align _ trait.Default other = refl
+  capable_scalar id identifier size align _ trait.FromStr other = refl
+
+  leaf_here : (among : List Shape) (id : ℕ) (identifier : List ℕ) (size align : ℕ) (k of : ScalarType) → kind_of_shape among (scalar_shape m id identifier size align k) ≡ kind.Leaf of
+      → (k ≢ scalar.Unit) × (k ≡ of)
+  unfolding scalar_shape
+  leaf_here among id identifier size align k of same = leaf_of_scalar among k of same
+
+  is_capable : (among : List Shape) (id : ℕ) (identifier : List ℕ) (size align : ℕ) (k : ScalarType) → IsCapable among (Some (scalar_shape m id identifier size align k))
+  is_capable among id identifier size align k =
+      record {
+        capable = λ of c same offered.
+            let leaf = leaf_here among id identifier size align k of same in
+            subst (λ j. m.can j c ≡ true) leaf.1 (sym (capable_scalar id identifier size align k c leaf.0) ∙ offered);
+      }
+
+  capable_prelude : (among : List Shape) → AreCapable among (prelude m).shapes
+  unfolding prelude
+  capable_prelude among =
+      (is_capable among _ _ _ _ _, (is_capable among _ _ _ _ _, (is_capable among _ _ _ _ _, (is_capable among _ _ _ _ _, (is_capable among _ _ _ _ _, (is_capable among _ _ _ _ _, (is_capable among _ _ _ _ _, (is_capable among _ _ _ _ _, (is_capable among _ _ _ _ _, (is_capable among _ _ _ _ _, (is_capable among _ _ _ _ _, (is_capable among _ _ _ _ _, (is_capable among _ _ _ _ _, (is_capable among _ _ _ _ _, (is_capable among _ _ _ _ _, (is_capable among _ _ _ _ _, tt))))))))))))))))
+
   registry-prelude : IsRegistry m (prelude m)
   unfolding prelude scalar_shape
   registry-prelude =
@@ -38,7 +95,7 @@ module _ {L : Type 0} (m : LeafModel L) where
         begins = refl;
         least = omega arith;
         within = omega arith;
-        well_formed = λ s below k same. rooms (prelude m).shapes (prelude m).shapes refl s k same;
+        well_formed = λ s below. record { room = rooms (prelude m).shapes (prelude m).shapes refl s; capable = (capable_at (prelude m).shapes (prelude m).shapes (capable_prelude (prelude m).shapes) s).capable };
       }
 
   pub is_registry : (shapes : List Shape) → shapes ≡ (prelude m).shapes → IsRegistry m (registry_of shapes 16)

@@ -1,18 +1,20 @@
 -- What holds of every registry.
-use Rattle.std.specs.Prelude.{◌≡◌, ℕ, ◌<◌, ◌≤◌, take, length}
+use Rattle.std.specs.Prelude.{◌≡◌, ℕ, ◌<◌, ◌≤◌, true, take, length}
+use Rattle.facet_base.specs.declared.characteristic.Characteristic.{Characteristic}
 use Rattle.facet_base.specs.declared.scalar_type.ScalarType.{ScalarType}
 use Rattle.facet_leaf.specs.LeafModel.{LeafModel}
 use Rattle.facet_shapes.specs.declared.value_kind.ValueKind.TheVariants as kind
 use Rattle.facet_shapes.specs.Prelude.{prelude}
-use Rattle.facet_shapes.specs.Registry.{Registry, kind_at, size_at}
+use Rattle.facet_shapes.specs.Registry.{Registry, kind_at, offers, size_at}
 
--- a shape whose values are leaves has a byte or more for them
-abbrev pub IsWellFormed : Registry → ℕ → Type 0
-IsWellFormed registry s = (k : ScalarType) → kind_at registry s ≡ kind.Leaf k → 0 < size_at registry s
+-- a shape whose values are leaves has a byte or more for them, and offers only what the leaf semantics has for their kind
+pub record IsWellFormed {L : Type 0} (m : LeafModel L) (registry : Registry) (s : ℕ) : Type 0 where
+  pub room : (k : ScalarType) → kind_at registry s ≡ kind.Leaf k → 0 < size_at registry s
+  pub capable : (k : ScalarType) (c : Characteristic) → kind_at registry s ≡ kind.Leaf k → offers registry s c ≡ true → m.can k c ≡ true
 
 -- it begins with the prelude, and each sealed shape is well formed
 pub record IsRegistry {L : Type 0} (m : LeafModel L) (registry : Registry) : Type 0 where
   pub begins : take 16 registry.shapes ≡ (prelude m).shapes
   pub least : 16 ≤ registry.sealed
   pub within : registry.sealed ≤ length registry.shapes
-  pub well_formed : (s : ℕ) → s < registry.sealed → IsWellFormed registry s
+  pub well_formed : (s : ℕ) → s < registry.sealed → IsWellFormed m registry s

@@ -6,12 +6,22 @@ use crate::registry::Shapes;
 use facet_base::{Characteristic, ShapeId};
 use facet_leaf::Leaf;
 
+impl<L: Leaf> Shapes<L> {
+    /// Whether the values of a shape can do that, as its record of capabilities says. Without a shape under the
+    /// id nothing can be done.
+    pub fn offers(&self, id: ShapeId, c: Characteristic) -> bool
+        ensures { result ≡ offers self.now id.0 c }
+    {
+        self.get(id).is_some_and(|shape| shape.is(c))
+    }
+}
+
 /// Whether the values of each shape can do that. Where there is no shape under a number, nothing can be done.
 pub fn all<L: Leaf>(shapes: &Shapes<L>, c: Characteristic, ids: &[ShapeId]) -> bool
     ensures { result ≡ list_all (λ id. offers shapes.now id.0 c) ids.now }
 {
     for id in ids {
-        if !can(shapes, *id, c) {
+        if !shapes.offers(*id, c) {
             return false;
         }
     }
@@ -23,7 +33,7 @@ pub fn any<L: Leaf>(shapes: &Shapes<L>, c: Characteristic, ids: &[ShapeId]) -> b
     ensures { result ≡ list_any (λ id. offers shapes.now id.0 c) ids.now }
 {
     for id in ids {
-        if can(shapes, *id, c) {
+        if shapes.offers(*id, c) {
             return true;
         }
     }
@@ -70,14 +80,4 @@ pub fn all_hash<L: Leaf>(shapes: &Shapes<L>, ids: &[ShapeId]) -> bool
     ensures { result ≡ list_all (λ id. offers shapes.now id.0 Characteristic.Hash) ids.now }
 {
     all(shapes, Characteristic::Hash, ids)
-}
-
-// Whether the values of the shape of a number can do that.
-fn can<L: Leaf>(shapes: &Shapes<L>, id: ShapeId, c: Characteristic) -> bool
-    ensures { result ≡ offers shapes.now id.0 c }
-{
-    match shapes.get(id) {
-        Some(shape) => shape.is(c),
-        None => false,
-    }
 }

@@ -40,7 +40,7 @@ module _ {L : Type 0} (m : LeafModel L) (registry : Registry) (is : IsRegistry m
   own_items p q sealed same =
       own-same (kind_at registry p.shape) (item_at p.block p.offset) (item_at q.block q.offset)
       (λ k leaves.
-      let e = same.items 0 (is.well_formed p.shape sealed k leaves) in
+      let e = same.items 0 ((is.well_formed p.shape sealed).room k leaves) in
       let first : item_at q.block q.offset ≡ item_at p.block p.offset = rw (add-zero, add-zero) at e in
       sym first)
 

@@ -18,7 +18,7 @@ returns-then-is_taken-clause-ok g c =
 pub put_scalar-requires-clause-room : goal.put_scalar-requires-clause-room
 put_scalar-requires-clause-room g c =
     let below : c.args.shape.0 < c.args.session.now.shapes.sealed = omega (arith, c.if-shape-sealed.false, c.sealed.ensures.count) in
-    c.sealed.ensures.registry.well_formed c.args.shape.0 below c.in-Leaf.kind (sym c.in-Leaf.ensures)
+    (c.sealed.ensures.registry.well_formed c.args.shape.0 below).room c.in-Leaf.kind (sym c.in-Leaf.ensures)
 
 pub returns-in-Unit-clause-ok : goal.returns-in-Unit-clause-ok
 returns-in-Unit-clause-ok g c =
