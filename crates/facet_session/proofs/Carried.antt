@@ -19,7 +19,7 @@ use Rattle.facet_session.specs.declared.session.Answer.{Answer}
 use Rattle.facet_session.specs.declared.command.Command.{Command}
 use Rattle.facet_session.specs.Grammar.{command_of}
 use Rattle.facet_session.specs.Interpreter.{Entry, State, Turn, refused, is_taken, put_leaf, put_kind, put, turn_of, next, listed}
-use Rattle.facet_session.specs.Session.{ShowsEntry, ShowEntries, Shows, Answers}
+use Rattle.facet_session.specs.Session.{ShowsEntry, ShowEntries, Shows, CarriesOut}
 use Rattle.facet_session.specs.Stepping.{Carries}
 use Rattle.facet_session.proofs.Reading.{leaf_block, reads_leaf, leaf_block_size}
 use Rattle.facet_session.proofs.Shown.{shows_same, show_more, taken-shown}
@@ -33,13 +33,13 @@ module _ {L : Type 0} (m : LeafModel L) where
   pub carries_refused : (session : Session L) (answer : Answer) (words : List ℕ) (turn : State L → Turn L) → session.log.leaves ≡ []
       → ((state : State L) → Shows m session state → turn state ≡ refused state words) → answer ≡ words_answer words → Carries m session session answer turn
   carries_refused session answer words turn empty is same = record {
-    answers = λ state shown. rw (is state shown) (record {
+    turn = λ state shown. rw (is state shown) (record {
       text = ap (λ a. a.text) same ∙ sym (append-nil words) ∙ sym (append-nil (words ++ []));
       made = ap (λ a. a.made) same;
       dropped = ap (λ a. a.dropped) same;
+      state = shown;
+      log = empty;
     });
-    shows = λ state shown. rw (is state shown) shown;
-    logs = λ state shown. rw (is state shown) empty;
     keeps = λ cell among. among;
   }
 
@@ -47,9 +47,7 @@ module _ {L : Type 0} (m : LeafModel L) where
   pub carries_as : (before now : Session L) (answer : Answer) (turn other : State L → Turn L) → ((state : State L) → Shows m before state → turn state ≡ other state)
       → Carries m before now answer other → Carries m before now answer turn
   carries_as before now answer turn other same carried = record {
-    answers = λ state shown. rw (same state shown) (carried.answers state shown);
-    shows = λ state shown. rw (same state shown) (carried.shows state shown);
-    logs = λ state shown. rw (same state shown) (carried.logs state shown);
+    turn = λ state shown. rw (same state shown) (carried.turn state shown);
     keeps = carried.keeps;
   }
 
@@ -71,15 +69,19 @@ module _ {L : Type 0} (m : LeafModel L) where
       → answer.text ≡ codes "ok" ++ listed m (codes " made [") (x ∷ []) → answer.made ≡ 1 → answer.dropped ≡ 0
       → Carries m before now answer (λ state. put_leaf state cell.name cell.shape.0 (Some x))
   carries_leaf before now answer cell x of some block shapes cells empty text made dropped = record {
-    answers = λ state shown. record { text = text ∙ sym (append-nil (codes "ok" ++ listed m (codes " made [") (x ∷ []))); made = made; dropped = dropped };
-    shows = λ state shown. record {
-      registry = shapes ∙ shown.registry;
-      cells =
-          let entry : Entry L = record { name = cell.name; shape = cell.shape.0; value = leaf x } in
-          let one = subst (λ r. ShowsEntry m r cell entry) shown.registry (entry_shown before.shapes cell x of some block) in
-          subst (λ cs. ShowEntries m state.registry cs (state.entries ++ entry ∷ [])) (sym cells) (show_more m state.registry before.cells.items state.entries cell entry shown.cells one);
+    turn = λ state shown. record {
+      text = text ∙ sym (append-nil (codes "ok" ++ listed m (codes " made [") (x ∷ [])));
+      made = made;
+      dropped = dropped;
+      state = record {
+        registry = shapes ∙ shown.registry;
+        cells =
+            let entry : Entry L = record { name = cell.name; shape = cell.shape.0; value = leaf x } in
+            let one = subst (λ r. ShowsEntry m r cell entry) shown.registry (entry_shown before.shapes cell x of some block) in
+            subst (λ cs. ShowEntries m state.registry cs (state.entries ++ entry ∷ [])) (sym cells) (show_more m state.registry before.cells.items state.entries cell entry shown.cells one);
+      };
+      log = empty;
     };
-    logs = λ state shown. empty;
     keeps = λ c among. subst (λ cs. Contains cs c) (sym cells) (Contains-append_left before.cells.items (cell ∷ []) c among);
   }
 
@@ -88,9 +90,7 @@ module _ {L : Type 0} (m : LeafModel L) where
       → command ≡ command_of line → Carries m cleared now answer (λ state. turn_of m state command) → Carries m before now answer (λ state. next m state line)
   unfolding next
   carries_next before cleared now answer line command shapes cells read carried = record {
-    answers = λ state shown. subst (λ o. Answers m answer (turn_of m state o)) read (carried.answers state (shows_same m before cleared state shapes cells shown));
-    shows = λ state shown. subst (λ o. Shows m now (turn_of m state o).state) read (carried.shows state (shows_same m before cleared state shapes cells shown));
-    logs = λ state shown. subst (λ o. now.log.leaves ≡ (turn_of m state o).dropped) read (carried.logs state (shows_same m before cleared state shapes cells shown));
+    turn = λ state shown. subst (λ o. CarriesOut m now answer (turn_of m state o)) read (carried.turn state (shows_same m before cleared state shapes cells shown));
     keeps = λ cell among. carried.keeps cell (subst (λ cs. Contains cs cell) (sym cells) among);
   }
 

@@ -1,5 +1,5 @@
 -- A session against the interpreter's state.
-use Rattle.std.specs.Prelude.{◌≡◌, List, [], ◌∷◌, length}
+use Rattle.std.specs.Prelude.{◌≡◌, List, [], ◌∷◌, length, Contains}
 use Rattle.facet_block.specs.Block.{size_of}
 use Rattle.facet_leaf.specs.LeafModel.{LeafModel}
 use Rattle.facet_shapes.specs.Prelude.{prelude}
@@ -34,17 +34,23 @@ module _ {L : Type 0} (m : LeafModel L) where
     pub state : State L
     pub shown : Shows session state
 
-  -- an answer has the text of a turn, and the numbers of its leaves
-  pub record Answers (answer : Answer) (turn : Turn L) : Type 0 where
+  -- a turn is carried out: the answer has its text and the numbers of its leaves, the session shows its state, and the log has the leaves that it dropped
+  pub record CarriesOut (session : Session L) (answer : Answer) (turn : Turn L) : Type 0 where
     pub text : answer.text ≡ text_of m turn
     pub made : answer.made ≡ length turn.made
     pub dropped : answer.dropped ≡ length turn.dropped
+    pub state : Shows session turn.state
+    pub log : session.log.leaves ≡ turn.dropped
 
 -- the prelude, no cell and an empty log
 pub record IsNew {L : Type 0} (m : LeafModel L) (session : Session L) : Type 0 where
   pub registry : session.shapes ≡ prelude m
   pub cells : session.cells.items ≡ []
   pub log : session.log.leaves ≡ []
+
+-- each cell stays as it is
+abbrev pub KeepsCells : {L : Type 0} → Session L → Session L → Type 0
+KeepsCells {L} before now = (cell : Cell L) → Contains before.cells.items cell → Contains now.cells.items cell
 
 -- registry and cells are as before
 pub record IsUnchanged {L : Type 0} (before now : Session L) : Type 0 where

@@ -1,11 +1,10 @@
-ghost use Rattle.std.specs.Prelude.{◌≡◌, ◌<◌, [], Some, IfOk, OnOk, OnErr, Contains};
+ghost use Rattle.std.specs.Prelude.{◌≡◌, ◌<◌, [], Some, IfOk, OnOk, OnErr};
 ghost use Rattle.facet_shapes.specs.Registry.{kind_at, size_at, size_of_layout};
 ghost use Rattle.facet_block.specs.Block.{empty_block, with_item};
 ghost use Rattle.facet_block.specs.declared.block.Item.{Leaf};
 ghost use Rattle.facet_session.specs.Interpreter.{State, next, last, turn_of, put as put_turn, put_kind, put_leaf};
-ghost use Rattle.facet_session.specs.Session.{Shows, IsReady, Answers, IsUnchanged};
+ghost use Rattle.facet_session.specs.Session.{Shows, IsReady, CarriesOut, KeepsCells, IsUnchanged};
 ghost use Rattle.facet_session.specs.Stepping.{Carries};
-ghost use Rattle.facet_session.specs.declared.session.Cell.{Cell};
 
 use crate::cells::{drop_values, is_taken};
 use crate::command::{Command, read_command};
@@ -16,31 +15,32 @@ use facet_block::{Block, Leaf, PtrUninit};
 use facet_shapes::{Shapes, ValueKind};
 use std::alloc::{AllocError, Global};
 
-/// Carries out a line. After a refusal, which comes for want of memory alone, registry and cells are as before.
+/// Carries out a line. After an `Err`, which comes out of memory alone, registry and cells are as before and the log is
+/// empty.
 pub fn step<L: Leaf>(
     alloc: Global,
     session: &mut Session<L>,
     line: &[u8],
 ) -> Result<Answer, AllocError>
-    ensures answer { IfOk result (λ answer. (state : State L) → Shows L.model session.old state → Answers L.model answer (next L.model state line.now)) }
-    ensures shown { OnOk result ((state : State L) → Shows L.model session.old state → Shows L.model session.new (next L.model state line.now).state) }
-    ensures log { OnOk result ((state : State L) → Shows L.model session.old state → session.new.log.leaves ≡ (next L.model state line.now).dropped) }
-    ensures kept { OnOk result ((cell : Cell L) → Contains session.old.cells.items cell → Contains session.new.cells.items cell) }
+    ensures turn { IfOk result (λ answer. (state : State L) → Shows L.model session.old state
+        → CarriesOut L.model session.new answer (next L.model state line.now)) }
+    ensures kept { OnOk result (KeepsCells session.old session.new) }
     ensures err { OnErr result (IsUnchanged session.old session.new) }
+    ensures cleared { OnErr result (session.new.log.leaves ≡ []) }
 {
     session.log.clear();
     let command = read_command(alloc, line)?;
     carry_out(alloc, session, command)
 }
 
-/// Carries out the last line, which drops the values of all cells. After a refusal, which comes for want of
-/// memory alone, registry and cells are as before.
+/// Carries out the end of a script, which drops the values of all cells. After an `Err`, which comes out of memory
+/// alone, registry and cells are as before and the log is empty.
 pub fn finish<L: Leaf>(alloc: Global, session: &mut Session<L>) -> Result<Answer, AllocError>
     requires { IsReady L.model session.old }
-    ensures answer { IfOk result (λ answer. (state : State L) → Shows L.model session.old state → Answers L.model answer (last state)) }
-    ensures shown { OnOk result ((state : State L) → Shows L.model session.old state → Shows L.model session.new (last state).state) }
-    ensures log { OnOk result ((state : State L) → Shows L.model session.old state → session.new.log.leaves ≡ (last state).dropped) }
+    ensures turn { IfOk result (λ answer. (state : State L) → Shows L.model session.old state
+        → CarriesOut L.model session.new answer (last state)) }
     ensures err { OnErr result (IsUnchanged session.old session.new) }
+    ensures cleared { OnErr result (session.new.log.leaves ≡ []) }
 {
     session.log.clear();
     session.log.make_room(session.cells.len())?;
@@ -63,6 +63,7 @@ fn carry_out<L: Leaf>(
     requires { session.old.log.leaves ≡ [] }
     ensures ok { IfOk result (λ answer. Carries L.model session.old session.new answer (λ state. turn_of L.model state command)) }
     ensures err { OnErr result (IsUnchanged session.old session.new) }
+    ensures cleared { OnErr result (session.new.log.leaves ≡ []) }
 {
     match command {
         None => refuse(alloc, "syntax"),
@@ -81,6 +82,7 @@ fn put<L: Leaf>(
     requires { session.old.log.leaves ≡ [] }
     ensures ok { IfOk result (λ answer. Carries L.model session.old session.new answer (λ state. put_turn L.model state name shape.0 text.now)) }
     ensures err { OnErr result (IsUnchanged session.old session.new) }
+    ensures cleared { OnErr result (session.new.log.leaves ≡ []) }
 {
     if shape.0 as usize >= session.shapes.sealed() {
         return refuse(alloc, "no such shape");
@@ -110,6 +112,7 @@ fn put_scalar<L: Leaf>(
     ensures ok { IfOk result (λ answer. Carries L.model session.old session.new answer
         (λ state. put_kind L.model state name shape.0 text.now (ValueKind.Leaf kind))) }
     ensures err { OnErr result (IsUnchanged session.old session.new) }
+    ensures cleared { OnErr result (session.new.log.leaves ≡ []) }
 {
     if !L::can(kind, Characteristic::FromStr) {
         return refuse(alloc, "unsupported");
@@ -133,6 +136,7 @@ fn add_leaf<L: Leaf>(
     requires kind { kind_at session.old.shapes shape.0 ≡ ValueKind.Leaf (L.model.kind leaf) }
     ensures ok { IfOk result (λ answer. Carries L.model session.old session.new answer (λ state. put_leaf state name shape.0 (Some leaf))) }
     ensures err { OnErr result (IsUnchanged session.old session.new) }
+    ensures cleared { OnErr result (session.new.log.leaves ≡ []) }
 {
     let text = text_of_made(alloc, &leaf)?;
     let block = block_of(alloc, &session.shapes, shape, leaf)?;

@@ -26,11 +26,11 @@ loop-rest-preserved g c =
     let some : 0 < length c.loop-rest.rest.now = grind arith in
     let cut : lines c.loop-rest.rest.now ≡ line ∷ lines rest =
     lines_parted c.loop-rest.rest.now line rest some c.cut_line.ensures.line c.cut_line.ensures.rest in
-    let text = (c.in-Ok.ensures.answer (after m script k) stands.cells).text in
+    let text = (c.in-Ok.ensures.turn (after m script k) stands.cells).text in
     let handed = rw text at c.in-Ok-hand_line.ensures.bytes in
     record {
       stands = line_answered m script k c.loop-rest.rest.now line rest _ _ _ c.loop-rest.session c.step.new.session cut stands
-          (c.in-Ok.ensures.shown (after m script k) stands.cells) handed;
+          (c.in-Ok.ensures.turn (after m script k) stands.cells).state handed;
       count = omega (arith, ap length cut);
       few = omega (arith, c.cut_line.ensures.shorter some);
       kept = c.in-Ok-hand_line.ensures.kept ∙ c.loop-rest.invariant.kept;
@@ -47,8 +47,8 @@ returns-in-Err-hand_line-clause-served g c =
     let some : 0 < length c.loop-rest.rest.now = grind arith in
     let cut : lines c.loop-rest.rest.now ≡ line ∷ lines rest =
     lines_parted c.loop-rest.rest.now line rest some c.cut_line.ensures.line c.cut_line.ensures.rest in
-    let text = (c.in-Ok.ensures.answer (after m script k) stands.cells).text in
+    let text = (c.in-Ok.ensures.turn (after m script k) stands.cells).text in
     let part = rw text at c.in-Err-hand_line.ensures.bytes in
     rw c.status.ensures
     (line_cut_short m script k c.loop-rest.rest.now line rest _ _ _ c.loop-rest.session c.step.new.session c.in-Err-hand_line.error (omega arith) cut stands
-    (c.in-Ok.ensures.shown (after m script k) stands.cells) part)
+    (c.in-Ok.ensures.turn (after m script k) stands.cells).state part)

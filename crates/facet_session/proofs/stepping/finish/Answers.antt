@@ -1,5 +1,6 @@
-use Rattle.std.proofs.Common.{◌∙◌, ◌++◌, All, ap, sym, subst, refl, length, codes}
+use Rattle.std.proofs.Common.{[], ◌∙◌, ◌++◌, All, ap, sym, subst, refl, length, codes}
 use Rattle.facet_session.specs.Interpreter.{listed}
+use Rattle.facet_session.specs.Session.{ShowEntries}
 use Rattle.facet_session.specs.Stored.{stored_in_all, IsFilled}
 use Rattle.facet_session.proofs.Shown.{cells_filled, stored-session}
 use Rattle.facet_session.proofs.stepping.finish.Goals as goal
@@ -12,23 +13,20 @@ text_of_end-requires g c =
 pub drop_values-requires-clause-filled : goal.drop_values-requires-clause-filled
 drop_values-requires-clause-filled g c = cells_filled g.L.Leaf.model c.args.session.now c.requires
 
-pub returns-clause-answer : goal.returns-clause-answer
-returns-clause-answer g c state shown =
+pub returns-clause-turn : goal.returns-clause-turn
+returns-clause-turn g c state shown =
     let m = g.L.Leaf.model in
     let session = c.args.session.now in
     let empty = c.in_ok-make_room.ensures.leaves ∙ c.clear.ensures.leaves in
     let stored = stored-session m session state shown in
+    let gone = c.drop_values.ensures ∙ ap (λ xs. xs ++ stored_in_all session.shapes session.cells.items) empty ∙ stored in
     record {
       text =
           c.in_ok-text.ensures
           ∙ ap (λ cells. codes "end" ++ listed m (codes " dropped [") (stored_in_all session.shapes cells)) c.as_slice.ensures
           ∙ ap (λ xs. codes "end" ++ listed m (codes " dropped [") xs) stored;
       made = refl;
-      dropped = ap length (c.leaves.ensures ∙ c.drop_values.ensures ∙ ap (λ xs. xs ++ stored_in_all session.shapes session.cells.items) empty ∙ stored);
+      dropped = ap length (c.leaves.ensures ∙ gone);
+      state = record { registry = shown.registry; cells = subst (λ cells. ShowEntries m state.registry cells []) (sym c.new.ensures) tt };
+      log = gone;
     }
-
-pub returns-clause-log : goal.returns-clause-log
-returns-clause-log g c state shown =
-    let session = c.args.session.now in
-    let empty = c.in_ok-make_room.ensures.leaves ∙ c.clear.ensures.leaves in
-    c.drop_values.ensures ∙ ap (λ xs. xs ++ stored_in_all session.shapes session.cells.items) empty ∙ stored-session g.L.Leaf.model session state shown

@@ -1,4 +1,4 @@
-use Rattle.std.proofs.Common.{◌<◌, ◌∙◌, refl, ap, sym, codes, arith, rules}
+use Rattle.std.proofs.Common.{◌<◌, ◌∙◌, refl, ap, sym, codes, arith}
 use Rattle.std.proofs.lemmas.Result.{IfOk-weaker}
 use Rattle.facet_shapes.specs.Registry.{kind_at}
 use Rattle.facet_session.specs.Interpreter.{put}
@@ -45,8 +45,8 @@ returns-in-Leaf-clause-ok g c =
     (λ state shown. ap (put m state name s) (sym c.as_str.ensures) ∙ put-free m session name s text state shown below free _ (sym c.in-Leaf.ensures)) carried)
     c.put_scalar.ensures.ok
 
-pub returns-in_default : goal.returns-in_default
-returns-in_default g c =
+pub returns-in_default-clause-ok : goal.returns-in_default-clause-ok
+returns-in_default-clause-ok g c =
     let m = g.L.Leaf.model in
     let session = c.args.session.now in
     let name = c.args.name in
@@ -55,11 +55,8 @@ returns-in_default g c =
     let below : s < session.shapes.sealed = omega (arith, c.if-shape-sealed.false, c.sealed.ensures.count) in
     let free = test_of session.cells.items _ name _ _ c.as_slice.ensures c.is_taken.ensures c.if-is_taken.false in
     let of = kind_at session.shapes s in
-    record {
-      ok = IfOk-weaker c.refuse-in_default.result _ _
-          (λ answer same. carries_refused m session answer (codes "wrong shape") _ c.requires
-          (λ state shown. put-free m session name s text state shown below free of refl
-          ∙ put_kind-other m session name s text state shown of (λ e. c.in_default.not-Unit (c.kind_of.ensures ∙ e)) (λ k e. c.in_default.not-Leaf k (c.kind_of.ensures ∙ e))) same)
-          c.refuse-in_default.ensures;
-      err = search rules;
-    }
+    IfOk-weaker c.refuse-in_default.result _ _
+    (λ answer same. carries_refused m session answer (codes "wrong shape") _ c.requires
+    (λ state shown. put-free m session name s text state shown below free of refl
+    ∙ put_kind-other m session name s text state shown of (λ e. c.in_default.not-Unit (c.kind_of.ensures ∙ e)) (λ k e. c.in_default.not-Leaf k (c.kind_of.ensures ∙ e))) same)
+    c.refuse-in_default.ensures

@@ -3,20 +3,8 @@ use Rattle.std.proofs.lemmas.Result.{IfOk-weaker}
 use Rattle.facet_session.proofs.Carried.{carries_next}
 use Rattle.facet_session.proofs.stepping.step.Goals as goal
 
-pub returns-clause-answer : goal.returns-clause-answer
-returns-clause-answer g c =
+pub returns-clause-turn : goal.returns-clause-turn
+returns-clause-turn g c =
     IfOk-weaker c.carry_out.result _ _
-    (λ answer carried. (carries_next g.L.Leaf.model c.args.session.now _ c.carry_out.new.session answer c.args.line.now _ refl refl c.in_ok-command.ensures carried).answers)
-    c.carry_out.ensures.ok
-
-pub returns-clause-shown : goal.returns-clause-shown
-returns-clause-shown g c =
-    IfOk-weaker c.carry_out.result _ _
-    (λ answer carried. (carries_next g.L.Leaf.model c.args.session.now _ c.carry_out.new.session answer c.args.line.now _ refl refl c.in_ok-command.ensures carried).shows)
-    c.carry_out.ensures.ok
-
-pub returns-clause-log : goal.returns-clause-log
-returns-clause-log g c =
-    IfOk-weaker c.carry_out.result _ _
-    (λ answer carried. (carries_next g.L.Leaf.model c.args.session.now _ c.carry_out.new.session answer c.args.line.now _ refl refl c.in_ok-command.ensures carried).logs)
+    (λ answer carried. (carries_next g.L.Leaf.model c.args.session.now _ c.carry_out.new.session answer c.args.line.now _ refl refl c.in_ok-command.ensures carried).turn)
     c.carry_out.ensures.ok
