@@ -46,7 +46,7 @@ plus (b ∷ bytes) = behind_plus b bytes (nat_eq b 43)
 pub unsigned_parsed : {E : Type 0} (k : ℕ) (text : List ℕ) (r : Result ℕ E) → ParsesUnsigned k 10 text r → result_ok r ≡ unsigned_below (2 ^ k) text
 unsigned_parsed k text r h = below (2 ^ k) (without_plus text) r (subst (λ ds. OkIff r (IsNumeral 10 ds × (digits_value 10 ds < 2 ^ k)) (digits_value 10 ds)) (plus text) h)
 
--- the answer is a number's, exactly where digits write one below the limit
+-- Ok comes exactly where digits write a number below the limit, with that number
 abbrev Reads : {T E : Type 0} → (ℕ → T) → ℕ → List ℕ → Result T E → Type 0
 Reads g limit ds r = OkIff r ((all_ascii_digits ds ≡ true) × (0 < length ds) × (number_after 0 ds < limit)) (g (number_after 0 ds))
 

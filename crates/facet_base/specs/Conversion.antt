@@ -5,12 +5,12 @@ use Rattle.facet_base.specs.declared.conversion.TryIntoInnerError.TheVariants as
 use Rattle.facet_base.specs.declared.conversion.TryBorrowInnerError.{TryBorrowInnerError}
 use Rattle.facet_base.specs.declared.conversion.TryBorrowInnerError.TheVariants as borrow_inner
 
--- that the conversion isn't there, or the text that the error holds
+-- that the type has no such conversion, or the text that the error holds
 abbrev pub into_inner_text : TryIntoInnerError → List ℕ
 into_inner_text into_inner.NotSupported = codes "try_into_inner not supported"
 into_inner_text (into_inner.Generic text) = text
 
--- that the loan isn't there, or the text that the error holds
+-- that the type has no such borrow, or the text that the error holds
 abbrev pub borrow_inner_text : TryBorrowInnerError → List ℕ
 borrow_inner_text borrow_inner.NotSupported = codes "try_borrow_inner not supported"
 borrow_inner_text (borrow_inner.Generic text) = text

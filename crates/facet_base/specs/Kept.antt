@@ -2,7 +2,7 @@
 use Rattle.std.specs.Prelude.{ℕ, List, refl}
 use Rattle.std.specs.Coded.{Coded, code_by, coded×, coded_ℕ, coded_list}
 
--- the items, and how many more it takes without asking for memory
+-- the items, and how many more it takes without allocating
 pub record Kept (T : Type 0) : Type 0 where
   pub items : List T
   pub spare : ℕ

@@ -24,6 +24,26 @@ identifier_of scalar.I64 = codes "i64"
 identifier_of scalar.I128 = codes "i128"
 identifier_of scalar.ISize = codes "isize"
 
+-- how many kinds are declared before this one
+abbrev pub rank_of : ScalarType → ℕ
+rank_of scalar.Unit = 0
+rank_of scalar.Bool = 1
+rank_of scalar.Char = 2
+rank_of scalar.Str = 3
+rank_of scalar.String = 4
+rank_of scalar.U8 = 5
+rank_of scalar.U16 = 6
+rank_of scalar.U32 = 7
+rank_of scalar.U64 = 8
+rank_of scalar.U128 = 9
+rank_of scalar.USize = 10
+rank_of scalar.I8 = 11
+rank_of scalar.I16 = 12
+rank_of scalar.I32 = 13
+rank_of scalar.I64 = 14
+rank_of scalar.I128 = 15
+rank_of scalar.ISize = 16
+
 -- what a refused parse prints
 abbrev pub parse_error_text : ParseError → List ℕ
 parse_error_text error = codes "failed to parse " ++ identifier_of error.kind

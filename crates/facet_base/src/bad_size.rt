@@ -1,3 +1,3 @@
-/// No unsigned number of a tag takes so many bytes.
+/// No unsigned type of a discriminant has so many bytes.
 #[derive(Drop)]
 pub struct BadSize;

@@ -1,3 +1,6 @@
+ghost use Rattle.std.specs.Prelude.{◌≡◌};
+ghost use Rattle.facet_base.specs.Conversion.{into_inner_text, borrow_inner_text};
+
 use crate::layout::ShapeId;
 use crate::many::Many;
 use crate::text::Text;
@@ -37,27 +40,50 @@ pub enum TryIntoInnerError {
     Generic(Text),
 }
 
+impl TryIntoInnerError {
+    // The error in words.
+    fn text(&self) -> &str
+        ensures { result.now ≡ into_inner_text self.now }
+    {
+        match self {
+            TryIntoInnerError::NotSupported => "try_into_inner not supported",
+            TryIntoInnerError::Generic(text) => text.as_str(),
+        }
+    }
+}
+
 impl fmt::Display for TryIntoInnerError {
     ghost use Rattle.std.specs.Prelude.{Some};
     ghost use Rattle.facet_base.specs.Conversion.{into_inner_text};
 
     ghost output = { λ error. Some (into_inner_text error) };
 
+    ghost styled_output = { λ error _. Some (into_inner_text error) };
+
     fn fmt<W: fmt::Write>(&self, f: &mut fmt::Formatter<W>) -> fmt::Result {
-        match self {
-            TryIntoInnerError::NotSupported => f.write_str("try_into_inner not supported"),
-            TryIntoInnerError::Generic(text) => f.write_str(text.as_str()),
-        }
+        f.write_str(self.text())
     }
 }
 
-/// Why the value that another wraps isn't lent.
+/// Why the value that another wraps can't be borrowed.
 #[derive(Drop)]
 pub enum TryBorrowInnerError {
-    /// The type doesn't lend what it wraps.
+    /// The type has no such borrow.
     NotSupported,
     /// Another cause, in words.
     Generic(Text),
+}
+
+impl TryBorrowInnerError {
+    // The error in words.
+    fn text(&self) -> &str
+        ensures { result.now ≡ borrow_inner_text self.now }
+    {
+        match self {
+            TryBorrowInnerError::NotSupported => "try_borrow_inner not supported",
+            TryBorrowInnerError::Generic(text) => text.as_str(),
+        }
+    }
 }
 
 impl fmt::Display for TryBorrowInnerError {
@@ -66,10 +92,9 @@ impl fmt::Display for TryBorrowInnerError {
 
     ghost output = { λ error. Some (borrow_inner_text error) };
 
+    ghost styled_output = { λ error _. Some (borrow_inner_text error) };
+
     fn fmt<W: fmt::Write>(&self, f: &mut fmt::Formatter<W>) -> fmt::Result {
-        match self {
-            TryBorrowInnerError::NotSupported => f.write_str("try_borrow_inner not supported"),
-            TryBorrowInnerError::Generic(text) => f.write_str(text.as_str()),
-        }
+        f.write_str(self.text())
     }
 }

@@ -5,12 +5,12 @@ ghost use Rattle.facet_base.specs.Fnv.{fnv, fnv_start};
 use crate::fnv::{FNV_START, fnv1a_128};
 use std::fmt;
 
-/// The number of a type's declaration, which all types made from one generic type share.
+/// The id of a type's declaration, which all types made from one generic type share.
 #[derive(Clone, Copy, PartialEq, Eq, PartialOrd, Ord, Hash)]
 pub struct DeclId(pub u128);
 
 impl DeclId {
-    /// The number that a hash is.
+    /// The id with this hash.
     pub fn new(hash: u128) -> DeclId
         ensures { result.0 ≡ hash }
     {

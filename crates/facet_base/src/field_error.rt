@@ -5,7 +5,7 @@ use crate::layout::ShapeId;
 pub enum FieldError {
     /// The type has no field of that name.
     NoSuchField,
-    /// The type has `bound` fields, and none at the place `index`.
+    /// The type has `bound` fields, and none at `index`.
     IndexOutOfBounds { index: usize, bound: usize },
     /// The field's shape isn't the one that was asked for.
     TypeMismatch { expected: ShapeId, actual: ShapeId },

@@ -2,18 +2,18 @@ ghost use Rattle.std.specs.Prelude.{◌≡◌, MatchResult};
 
 use std::fmt;
 
-/// How much room a value takes, in bytes, and what its offset is a multiple of.
+/// The size of a value in bytes, and the alignment: each offset of such a value is a multiple of it.
 #[derive(Clone, Copy, PartialEq, Eq, Hash, Debug)]
 pub struct Layout {
     pub size: usize,
     pub align: usize,
 }
 
-/// The number of a shape in its registry.
+/// The id of a shape: its index in the registry.
 #[derive(Clone, Copy, PartialEq, Eq, PartialOrd, Ord, Hash, Debug)]
 pub struct ShapeId(pub u32);
 
-/// The number of a hook.
+/// The id of a hook.
 #[derive(Clone, Copy, PartialEq, Eq, PartialOrd, Ord, Hash, Debug)]
 pub struct HookId(pub u32);
 
@@ -25,7 +25,7 @@ pub enum ShapeLayout {
 }
 
 impl ShapeLayout {
-    /// The layout of a sized type. It is refused exactly for an unsized one.
+    /// The layout of a sized type. Err comes exactly for an unsized one.
     pub fn sized_layout(self) -> Result<Layout, UnsizedError>
         ensures { MatchResult result (λ layout. self ≡ ShapeLayout.Sized layout) (λ _. self ≡ ShapeLayout.Unsized) }
     {
@@ -44,6 +44,8 @@ impl fmt::Display for UnsizedError {
     ghost use Rattle.std.specs.Prelude.{Some, codes};
 
     ghost output = { λ _. Some (codes "Not a Sized type") };
+
+    ghost styled_output = { λ _ _. Some (codes "Not a Sized type") };
 
     fn fmt<W: fmt::Write>(&self, f: &mut fmt::Formatter<W>) -> fmt::Result {
         f.write_str("Not a Sized type")

@@ -37,7 +37,9 @@ pub use flags::{
 pub use fnv::{FNV_START, fnv1a_128};
 pub use iter_size_hint::IterSizeHint;
 pub use known_pointer::KnownPointer;
-pub use laws::{flip_laws, join_is_least, join_laws};
+pub use laws::{
+    constants_have_their_values, flip_laws, join_is_least, join_laws, scalar_kinds_are_ordered,
+};
 pub use layout::{HookId, Layout, ShapeId, ShapeLayout, UnsizedError};
 pub use many::Many;
 pub use missing_field::MissingField;

@@ -6,7 +6,7 @@ ghost use Rattle.facet_base.specs.Lending.{LendsItem};
 use std::alloc::{AllocError, Global};
 use std::marker::Model;
 
-/// A list of items. Contracts see its items, and its spare: how many more it takes without asking for memory.
+/// A list of items. Contracts see its items, and its spare capacity: how many more it takes without allocating.
 #[derive(Drop)]
 pub struct Many<T> {
     items: Vec<T>,
@@ -40,21 +40,21 @@ impl<T> Many<T> {
         self.items.len()
     }
 
-    /// How many more items it takes without asking for memory.
+    /// How many more items it takes without allocating.
     pub fn spare(&self) -> usize
         ensures { result ≡ self.now.spare }
     {
         self.items.capacity() - self.items.len()
     }
 
-    /// The item at place `i`, and none exactly at or above the length.
+    /// The item at index `i`, and None exactly at or above the length.
     pub fn get(&self, i: usize) -> Option<&T>
         ensures { option_copied result ≡ slice_get self.now.items i }
     {
         self.items.get(i)
     }
 
-    /// Lends the item at place `i`, and none exactly at or above the length.
+    /// Borrows the item at index `i`, and None exactly at or above the length. The other items stay.
     pub fn get_mut(&mut self, i: usize) -> Option<&mut T>
         ensures* lends { sem 𝓛 (LendsItem T.row self.entry i result) }
         ensures value { option_copied_mut result ≡ slice_get self.old.items i }
@@ -69,7 +69,7 @@ impl<T> Many<T> {
         self.items.as_slice()
     }
 
-    /// Makes the spare at least `n`. The items stay, whatever the answer, and the spare never falls.
+    /// Makes the spare capacity at least `n`. The items stay, also after an allocation failure, and the spare never falls.
     pub fn reserve(&mut self, n: usize) -> Result<(), AllocError>
         ensures items { self.new.items ≡ self.old.items }
         ensures spare { self.old.spare ≤ self.new.spare }
@@ -91,7 +91,7 @@ impl<T> Many<T> {
 }
 
 impl<T: Drop> Many<T> {
-    /// Adds an item at the end. A refusal, which comes only where the spare is 0, drops it.
+    /// Adds an item at the end. An allocation failure, which comes only where the spare is 0, drops it.
     pub fn push(&mut self, x: T) -> Result<(), AllocError>
         ensures ok { OnOk result (self.new.items ≡ self.old.items ++ x ∷ []) }
         ensures err { OnErr result (self.new.items ≡ self.old.items) }

@@ -9,12 +9,12 @@ pub trait Write {
     /// The bytes that were written, in order.
     ghost contents: { Self → List ℕ };
 
-    /// Appends all of `buf`. A refusal changes nothing.
+    /// Appends all of `buf`. After an allocation failure nothing has changed.
     fn write(&mut self, buf: &[u8]) -> Result<(), AllocError>
         ensures appended { OnOk result (contents self.new ≡ contents self.old ++ buf.now) }
         ensures refused { OnErr result (contents self.new ≡ contents self.old) };
 
-    /// Asks for room for `additional` bytes more. What was written stays, whatever the answer.
+    /// Makes room for `additional` bytes more. What was written stays, also after an allocation failure.
     fn reserve(&mut self, additional: usize) -> Result<(), AllocError>
         ensures { contents self.new ≡ contents self.old };
 }
@@ -26,7 +26,7 @@ impl Write for Vec<u8> {
         self.extend_from_slice(buf)
     }
 
-    // The capacity then holds the bytes more, and a refusal comes only where it didn't.
+    // After Ok the capacity holds the bytes more. An allocation failure comes only where it didn't.
     fn reserve(&mut self, additional: usize) -> Result<(), AllocError>
         ensures contents { self.new.items ≡ self.old.items }
         ensures room { OnOk result (length self.new.items + additional ≤ vec_capacity self.new) }

@@ -26,6 +26,33 @@ pub enum ScalarType {
     ISize,
 }
 
+impl ScalarType {
+    /// The identifier of the type whose values are of this kind.
+    pub fn identifier(self) -> &'static str
+        ensures { result.now ≡ identifier_of self }
+    {
+        match self {
+            ScalarType::Unit => "()",
+            ScalarType::Bool => "bool",
+            ScalarType::Char => "char",
+            ScalarType::Str => "str",
+            ScalarType::String => "String",
+            ScalarType::U8 => "u8",
+            ScalarType::U16 => "u16",
+            ScalarType::U32 => "u32",
+            ScalarType::U64 => "u64",
+            ScalarType::U128 => "u128",
+            ScalarType::USize => "usize",
+            ScalarType::I8 => "i8",
+            ScalarType::I16 => "i16",
+            ScalarType::I32 => "i32",
+            ScalarType::I64 => "i64",
+            ScalarType::I128 => "i128",
+            ScalarType::ISize => "isize",
+        }
+    }
+}
+
 /// A text is not one of a scalar of this kind.
 #[derive(Debug, Drop)]
 pub struct ParseError {
@@ -40,31 +67,6 @@ impl fmt::Display for ParseError {
 
     fn fmt<W: fmt::Write>(&self, f: &mut fmt::Formatter<W>) -> fmt::Result {
         f.write_str("failed to parse ")?;
-        f.write_str(identifier(self.kind))
-    }
-}
-
-// The identifier of the type whose values are of a kind.
-fn identifier(kind: ScalarType) -> &'static str
-    ensures { result.now ≡ identifier_of kind }
-{
-    match kind {
-        ScalarType::Unit => "()",
-        ScalarType::Bool => "bool",
-        ScalarType::Char => "char",
-        ScalarType::Str => "str",
-        ScalarType::String => "String",
-        ScalarType::U8 => "u8",
-        ScalarType::U16 => "u16",
-        ScalarType::U32 => "u32",
-        ScalarType::U64 => "u64",
-        ScalarType::U128 => "u128",
-        ScalarType::USize => "usize",
-        ScalarType::I8 => "i8",
-        ScalarType::I16 => "i16",
-        ScalarType::I32 => "i32",
-        ScalarType::I64 => "i64",
-        ScalarType::I128 => "i128",
-        ScalarType::ISize => "isize",
+        f.write_str(self.kind.identifier())
     }
 }

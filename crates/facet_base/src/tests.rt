@@ -1,7 +1,7 @@
 use crate::{
-    DeclId, Layout, Many, ParseError, ScalarType, ShapeId, ShapeLayout, Text, TryBorrowInnerError,
-    TryIntoInnerError, TypeNameOpts, UnsizedError, Variance, VarianceDep, VarianceDesc,
-    VariancePosition, Write, decl_id_hash, decl_id_hash_extern,
+    DeclId, Layout, MAX_VARIANCE_DEPTH, Many, ParseError, ScalarType, ShapeId, ShapeLayout, Text,
+    TryBorrowInnerError, TryIntoInnerError, TypeNameOpts, UnsizedError, Variance, VarianceDep,
+    VarianceDesc, VariancePosition, Write, decl_id_hash, decl_id_hash_extern,
 };
 use bytes::BytesMut;
 use std::alloc::AllocError;
@@ -39,23 +39,44 @@ fn a_declaration_is_printed_with_32_digits(rt: HostRuntime) -> Result<(), Fail> 
     Ok(())
 }
 
+// The kinds of scalars in their order, with the identifiers of their types.
+fn kinds() -> [(ScalarType, &'static str); 17] {
+    [
+        (ScalarType::Unit, "()"),
+        (ScalarType::Bool, "bool"),
+        (ScalarType::Char, "char"),
+        (ScalarType::Str, "str"),
+        (ScalarType::String, "String"),
+        (ScalarType::U8, "u8"),
+        (ScalarType::U16, "u16"),
+        (ScalarType::U32, "u32"),
+        (ScalarType::U64, "u64"),
+        (ScalarType::U128, "u128"),
+        (ScalarType::USize, "usize"),
+        (ScalarType::I8, "i8"),
+        (ScalarType::I16, "i16"),
+        (ScalarType::I32, "i32"),
+        (ScalarType::I64, "i64"),
+        (ScalarType::I128, "i128"),
+        (ScalarType::ISize, "isize"),
+    ]
+}
+
 #[test]
-fn a_refused_parse_prints_the_kind(rt: HostRuntime) -> Result<(), Fail> {
+fn scalar_kinds_are_in_order_and_a_refused_parse_prints_them(rt: HostRuntime) -> Result<(), Fail> {
     let alloc = rt.alloc();
-    for (kind, printed) in [
-        (ScalarType::U32, "failed to parse u32"),
-        (ScalarType::Str, "failed to parse str"),
-        (ScalarType::String, "failed to parse String"),
-        (ScalarType::Unit, "failed to parse ()"),
-        (ScalarType::ISize, "failed to parse isize"),
-    ] {
-        assert_eq!(rt; ParseError { kind }.to_string(alloc)?.as_str(), printed);
+    let mut last = None;
+    for (kind, identifier) in kinds() {
+        assert!(rt; last < Some(kind));
+        last = Some(kind);
+        let wanted = format!(in alloc; "failed to parse {identifier}")?;
+        assert_eq!(rt; ParseError { kind }.to_string(alloc)?, wanted);
     }
     Ok(())
 }
 
 #[test]
-fn a_conversion_that_is_not_there_prints_its_name_and_another_its_text(
+fn a_missing_conversion_prints_its_name_and_another_error_its_text(
     rt: HostRuntime,
 ) -> Result<(), Fail> {
     let alloc = rt.alloc();
@@ -71,13 +92,13 @@ fn a_conversion_that_is_not_there_prints_its_name_and_another_its_text(
         error.to_string(alloc)?.as_str(),
         "try_borrow_inner not supported"
     );
-    let error = TryBorrowInnerError::Generic(Text::new(alloc, "lent")?);
-    assert_eq!(rt; error.to_string(alloc)?.as_str(), "lent");
+    let error = TryBorrowInnerError::Generic(Text::new(alloc, "borrowed")?);
+    assert_eq!(rt; error.to_string(alloc)?.as_str(), "borrowed");
     Ok(())
 }
 
 #[test]
-fn only_a_sized_layout_is_answered(rt: HostRuntime) -> Result<(), Fail> {
+fn only_a_sized_type_has_a_layout(rt: HostRuntime) -> Result<(), Fail> {
     let alloc = rt.alloc();
     let layout = Layout { size: 24, align: 8 };
     assert_eq!(rt; ShapeLayout::Sized(layout).sized_layout(), Ok(layout));
@@ -108,35 +129,36 @@ fn names_show_one_level_less_for_children(rt: HostRuntime) {
 fn variances_are_joined_and_flipped(rt: HostRuntime) {
     for (first, second, joined) in [
         (
-            Variance::COVARIANT,
-            Variance::CONTRAVARIANT,
-            Variance::INVARIANT,
+            Variance::Covariant,
+            Variance::Contravariant,
+            Variance::Invariant,
         ),
         (
-            Variance::CONTRAVARIANT,
-            Variance::CONTRAVARIANT,
-            Variance::CONTRAVARIANT,
+            Variance::Contravariant,
+            Variance::Contravariant,
+            Variance::Contravariant,
         ),
         (
-            Variance::BIVARIANT,
-            Variance::COVARIANT,
-            Variance::COVARIANT,
+            Variance::Bivariant,
+            Variance::Covariant,
+            Variance::Covariant,
         ),
         (
-            Variance::INVARIANT,
-            Variance::BIVARIANT,
-            Variance::INVARIANT,
+            Variance::Invariant,
+            Variance::Bivariant,
+            Variance::Invariant,
         ),
     ] {
         assert_eq!(rt; first.combine(second), joined);
     }
     assert_eq!(rt; Variance::Contravariant.flip(), Variance::Covariant);
     assert_eq!(rt; Variance::default().flip(), Variance::Invariant);
+    assert_eq!(rt; MAX_VARIANCE_DEPTH, 32);
     for (variance, shrinks, grows) in [
-        (Variance::Bivariant, true, true),
-        (Variance::Covariant, true, false),
-        (Variance::Contravariant, false, true),
-        (Variance::Invariant, false, false),
+        (Variance::BIVARIANT, true, true),
+        (Variance::COVARIANT, true, false),
+        (Variance::CONTRAVARIANT, false, true),
+        (Variance::INVARIANT, false, false),
     ] {
         assert_eq!(rt;
             (variance.can_shrink(), variance.can_grow()),

@@ -9,7 +9,7 @@ use std::marker::Model;
 #[derive(Drop)]
 pub struct Text {
     text: String,
-    // By this number most unequal texts are told apart without a look at their bytes.
+    // Most unequal texts differ in this number, and so are told apart without reading their bytes.
     tail: u64,
 }
 
@@ -30,7 +30,7 @@ impl Model for Text {
 }
 
 impl Text {
-    /// A copy of `s`.
+    /// A copy of `s`, or an allocation failure.
     pub fn new(alloc: Global, s: &str) -> Result<Text, AllocError>
         ensures { IfOk result (λ text. text ≡ s.now) }
     {
@@ -40,7 +40,7 @@ impl Text {
         })
     }
 
-    /// The text of bytes that are UTF-8. It takes no memory.
+    /// The text of bytes that are UTF-8, in their memory. It allocates nothing.
     pub fn from_utf8(bytes: Vec<u8>) -> Text
         requires { IsUtf8 bytes.items }
         ensures { result ≡ bytes.items }
@@ -57,15 +57,14 @@ impl Text {
         self.text.as_str()
     }
 
-    /// The bytes, in the memory of the text. It takes no memory.
+    /// The bytes, in the memory of the text. It allocates nothing.
     pub fn into_bytes(self) -> Vec<u8>
         ensures { result.items ≡ self }
     {
         self.text.into_bytes()
     }
 
-    /// Whether it has the same bytes as another text. Texts of other lengths, and most of the same length, are
-    /// told apart in constant time.
+    /// Whether another text has the same bytes. Constant time where the lengths or the last eight bytes differ.
     pub fn is_same(&self, other: &Text) -> bool
         ensures { result ≡ bytes_eq self.now other.now }
     {
@@ -75,7 +74,7 @@ impl Text {
         self.text.as_str() == other.text.as_str()
     }
 
-    /// A text of the same bytes.
+    /// A text of the same bytes, or an allocation failure.
     pub fn try_clone(&self, alloc: Global) -> Result<Text, AllocError>
         ensures { IfOk result (λ text. text ≡ self.now) }
     {

@@ -6,8 +6,8 @@ use facet_base::Many;
 use std::alloc::{AllocError, Global};
 use std::marker::Model;
 
-/// A sink in memory, which holds what is written up to its room. It fails at the calls that it is told, and
-/// where it is full.
+/// A sink in memory, which holds what is written up to its room. It fails at the listed calls, and where
+/// it is full.
 #[derive(Drop)]
 pub struct ListSink {
     bytes: Vec<u8>,
@@ -31,7 +31,7 @@ impl Model for ListSink {
 
 impl ListSink {
     /// An empty sink with room for `room` bytes, which takes at most `most` bytes at a call and fails at the
-    /// calls listed in `fail`. The first call is 1. It takes memory here, and none later.
+    /// calls listed in `fail`. The first call is 1. All memory is allocated here.
     pub fn new(
         alloc: Global,
         room: usize,

@@ -5,7 +5,7 @@ use crate::{Failed, Source};
 use facet_base::Many;
 use std::marker::Model;
 
-/// A source in memory, which gives the bytes of a list. It fails at the calls that it is told.
+/// A source in memory, which returns the bytes of a list. It fails at the listed calls.
 #[derive(Drop)]
 pub struct ListSource {
     bytes: Vec<u8>,
@@ -29,7 +29,7 @@ impl Model for ListSource {
 }
 
 impl ListSource {
-    /// A source of `bytes`, which gives at most `most` bytes at a call and fails at the calls listed in
+    /// A source of `bytes`, which returns at most `most` bytes at a call and fails at the calls listed in
     /// `fail`. The first call is 1.
     pub fn new(bytes: Vec<u8>, fail: Many<usize>, most: usize) -> ListSource
         requires { 0 < most }

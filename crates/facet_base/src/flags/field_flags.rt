@@ -9,7 +9,7 @@ use bitflags::{Flag, Flags};
 use std::fmt;
 use std::ops::{BitAnd, BitAndAssign, BitOr, BitOrAssign, BitXor, BitXorAssign, Not};
 
-/// What is noted of a field.
+/// The properties of a field.
 #[derive(Clone, Copy, PartialEq, Eq, Hash, Default)]
 pub struct FieldFlags {
     pub bits: u16,

@@ -5,7 +5,7 @@ ghost use Rattle.facet_base.specs.Flags.{IsPart, IsUnion, IsIntersection, IsDiff
 
 use bitflags::Flags;
 
-/// `contains` answers whether each bit of `other` is one of the set.
+/// `contains` returns whether each bit of `other` is one of the set.
 pub fn contains_by_bits<F: Flags>(set: &F, other: F) -> bool
     requires { F.exact }
     ensures { IsTrue result ↔ IsPart (F.set_of other) (F.set_of set.now) }

@@ -9,7 +9,7 @@ use bitflags::{Flag, Flags};
 use std::fmt;
 use std::ops::{BitAnd, BitAndAssign, BitOr, BitOrAssign, BitXor, BitXorAssign, Not};
 
-/// What is noted of a smart pointer.
+/// The properties of a smart pointer.
 #[derive(Clone, Copy, PartialEq, Eq, Hash, Default)]
 pub struct PointerFlags {
     pub bits: u8,
@@ -20,7 +20,7 @@ impl PointerFlags {
     pub const EMPTY: PointerFlags = PointerFlags { bits: 0 };
     /// The pointer doesn't own its pointee.
     pub const WEAK: PointerFlags = PointerFlags { bits: 1 };
-    /// The pointer counts its owners atomically.
+    /// The pointer is atomically reference counted.
     pub const ATOMIC: PointerFlags = PointerFlags { bits: 2 };
     /// The pointer locks its pointee.
     pub const LOCK: PointerFlags = PointerFlags { bits: 4 };

@@ -9,7 +9,7 @@ use bitflags::{Flag, Flags};
 use std::fmt;
 use std::ops::{BitAnd, BitAndAssign, BitOr, BitOrAssign, BitXor, BitXorAssign, Not};
 
-/// What is noted of a shape.
+/// The properties of a shape.
 #[derive(Clone, Copy, PartialEq, Eq, Hash, Default)]
 pub struct ShapeFlags {
     pub bits: u16,

@@ -7,26 +7,20 @@ use crate::flags::{
 use bitflags::Flags;
 use std::alloc::AllocError;
 
-// The constants of the sets of eight bits, with their numbers.
-fn numbers_of_eight_bits() -> [(u8, u8); 11] {
+// The constants of the flag sets, with their numbers.
+fn numbers() -> [(u16, u16); 22] {
     [
-        (MarkerTraits::COPY.bits(), 1),
-        (MarkerTraits::SEND.bits(), 2),
-        (MarkerTraits::SYNC.bits(), 4),
-        (MarkerTraits::EQ.bits(), 8),
-        (MarkerTraits::UNPIN.bits(), 16),
-        (MarkerTraits::UNWIND_SAFE.bits(), 32),
-        (MarkerTraits::REF_UNWIND_SAFE.bits(), 64),
-        (PointerFlags::EMPTY.bits(), 0),
-        (PointerFlags::WEAK.bits(), 1),
-        (PointerFlags::ATOMIC.bits(), 2),
-        (PointerFlags::LOCK.bits(), 4),
-    ]
-}
-
-// The constants of the sets of sixteen bits, with their numbers.
-fn numbers_of_sixteen_bits() -> [(u16, u16); 11] {
-    [
+        (u16::from(MarkerTraits::COPY.bits()), 1),
+        (u16::from(MarkerTraits::SEND.bits()), 2),
+        (u16::from(MarkerTraits::SYNC.bits()), 4),
+        (u16::from(MarkerTraits::EQ.bits()), 8),
+        (u16::from(MarkerTraits::UNPIN.bits()), 16),
+        (u16::from(MarkerTraits::UNWIND_SAFE.bits()), 32),
+        (u16::from(MarkerTraits::REF_UNWIND_SAFE.bits()), 64),
+        (u16::from(PointerFlags::EMPTY.bits()), 0),
+        (u16::from(PointerFlags::WEAK.bits()), 1),
+        (u16::from(PointerFlags::ATOMIC.bits()), 2),
+        (u16::from(PointerFlags::LOCK.bits()), 4),
         (ShapeFlags::UNTAGGED.bits(), 1),
         (ShapeFlags::NUMERIC.bits(), 2),
         (ShapeFlags::POD.bits(), 4),
@@ -43,10 +37,7 @@ fn numbers_of_sixteen_bits() -> [(u16, u16); 11] {
 
 #[test]
 fn constants_have_their_numbers(rt: HostRuntime) {
-    for (bits, number) in numbers_of_eight_bits() {
-        assert_eq!(rt; bits, number);
-    }
-    for (bits, number) in numbers_of_sixteen_bits() {
+    for (bits, number) in numbers() {
         assert_eq!(rt; bits, number);
     }
 }
@@ -96,7 +87,7 @@ fn debug_of_sixteen_bits(rt: HostRuntime) -> Result<(), AllocError> {
     Ok(())
 }
 
-// What each operator gives of marker traits, with its number.
+// What each operator returns of marker traits, with its number.
 fn operations() -> [(MarkerTraits, u8); 8] {
     let both = MarkerTraits::COPY | MarkerTraits::EQ;
     let mut joined = MarkerTraits::COPY;
