@@ -59,7 +59,7 @@ empty_iterator =
       size_hint = false;
     }
 
--- a list without the operations that ask for the type of its elements
+-- a list without the operations that need the type of its elements
 abbrev pub empty_list_ops : ListTypeOps
 empty_list_ops =
     record {

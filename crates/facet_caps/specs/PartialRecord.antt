@@ -8,11 +8,11 @@ pub record PartialRecord (R : Type 0) : Type 0 where
   pub members : R
   pub given : List Bool
 
--- the record, unless the member at a place is missing
+-- the record, unless the required member at an index is missing
 abbrev pub unless_missing : {R : Type 0} → Option ℕ → R → Result R MissingField
 unless_missing None members = Ok members
-unless_missing (Some place) members = Err (record { 0 = place })
+unless_missing (Some index) members = Err (record { 0 = index })
 
--- what is built: the members, or the place of the first required one that was not given
+-- what is built: the members, or the index of the first required one that was not given
 abbrev pub built : {R : Type 0} → PartialRecord R → Result R MissingField
 built partial = unless_missing (position not partial.given) partial.members

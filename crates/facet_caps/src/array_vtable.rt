@@ -2,6 +2,7 @@ ghost use Rattle.std.specs.Prelude.{◌≡◌, true, false, replicate, slice_set
 ghost use Rattle.facet_caps.specs.Empty.{empty_array};
 ghost use Rattle.facet_caps.specs.PartialRecord.{built};
 
+use crate::partial_record::unless_missing;
 use facet_base::MissingField;
 use std::marker::Model;
 
@@ -19,33 +20,29 @@ impl ArrayVTable {
         ensures given { result.given ≡ replicate 2 false }
     {
         ArrayVTableBuilder {
-            as_ptr: None,
-            as_mut_ptr: None,
+            members: ArrayVTable {
+                as_ptr: false,
+                as_mut_ptr: false,
+            },
+            given: [false; 2],
         }
     }
 }
 
-/// Makes an `ArrayVTable`. Required are, in this order: `as_ptr` and `as_mut_ptr`.
+/// Builds an `ArrayVTable`. Required are, in this order: `as_ptr` and `as_mut_ptr`.
 #[derive(Drop)]
 pub struct ArrayVTableBuilder {
-    as_ptr: Option<bool>,
-    as_mut_ptr: Option<bool>,
+    members: ArrayVTable,
+    given: [bool; 2],
 }
 
 impl Model for ArrayVTableBuilder {
-    ghost use Rattle.std.specs.Prelude.{[], ◌∷◌, false, unwrap_or, is_some as is_given};
     ghost use Rattle.facet_caps.specs.declared.array_vtable.ArrayVTable.{ArrayVTable};
     ghost use Rattle.facet_caps.specs.PartialRecord.{PartialRecord};
 
     ghost Value = { PartialRecord ArrayVTable };
 
-    ghost view = { λ b. record {
-      members = record {
-        as_ptr = unwrap_or b.as_ptr false;
-        as_mut_ptr = unwrap_or b.as_mut_ptr false;
-      };
-      given = is_given b.as_ptr ∷ is_given b.as_mut_ptr ∷ [];
-    } };
+    ghost view = { λ b. record { members = b.members; given = b.given } };
 }
 
 impl ArrayVTableBuilder {
@@ -54,7 +51,8 @@ impl ArrayVTableBuilder {
         ensures members { result.members ≡ record (self.members) { as_ptr = value } }
         ensures given { result.given ≡ slice_set self.given 0 true }
     {
-        self.as_ptr = Some(value);
+        self.members.as_ptr = value;
+        self.given[0] = true;
         self
     }
 
@@ -63,7 +61,8 @@ impl ArrayVTableBuilder {
         ensures members { result.members ≡ record (self.members) { as_mut_ptr = value } }
         ensures given { result.given ≡ slice_set self.given 1 true }
     {
-        self.as_mut_ptr = Some(value);
+        self.members.as_mut_ptr = value;
+        self.given[1] = true;
         self
     }
 
@@ -71,9 +70,6 @@ impl ArrayVTableBuilder {
     pub fn build(self) -> Result<ArrayVTable, MissingField>
         ensures { result ≡ built self }
     {
-        Ok(ArrayVTable {
-            as_ptr: self.as_ptr.ok_or(MissingField(0))?,
-            as_mut_ptr: self.as_mut_ptr.ok_or(MissingField(1))?,
-        })
+        unless_missing(&self.given, self.members)
     }
 }

@@ -7,6 +7,7 @@ mod list_type_ops;
 mod list_vtable;
 mod map_vtable;
 mod option_vtable;
+mod partial_record;
 mod pointer_vtable;
 mod result_vtable;
 mod set_vtable;

@@ -3,10 +3,11 @@ ghost use Rattle.facet_caps.specs.Empty.{empty_list_ops};
 ghost use Rattle.facet_caps.specs.PartialRecord.{built};
 
 use crate::iter_vtable::IterVTable;
+use crate::partial_record::unless_missing;
 use facet_base::MissingField;
 use std::marker::Model;
 
-/// The operations of a list that ask for the type of its elements.
+/// The operations of a list that need the type of its elements.
 #[derive(Clone, Copy)]
 pub struct ListTypeOps {
     pub iter_vtable: IterVTable,
@@ -27,15 +28,8 @@ impl ListTypeOps {
         ensures given { result.given ≡ replicate 1 false }
     {
         ListTypeOpsBuilder {
-            iter_vtable: None,
-            init_in_place_with_capacity: false,
-            push: false,
-            pop: false,
-            set_len: false,
-            as_mut_ptr_typed: false,
-            reserve: false,
-            capacity: false,
-            from_raw_parts: false,
+            members: ListTypeOps::new(IterVTable::new(false, false)),
+            given: [false; 1],
         }
     }
 
@@ -57,42 +51,20 @@ impl ListTypeOps {
     }
 }
 
-/// Makes a `ListTypeOps`. Required is `iter_vtable`.
+/// Builds a `ListTypeOps`. Required is `iter_vtable`.
 #[derive(Drop)]
 pub struct ListTypeOpsBuilder {
-    iter_vtable: Option<IterVTable>,
-    init_in_place_with_capacity: bool,
-    push: bool,
-    pop: bool,
-    set_len: bool,
-    as_mut_ptr_typed: bool,
-    reserve: bool,
-    capacity: bool,
-    from_raw_parts: bool,
+    members: ListTypeOps,
+    given: [bool; 1],
 }
 
 impl Model for ListTypeOpsBuilder {
-    ghost use Rattle.std.specs.Prelude.{[], ◌∷◌, false, unwrap_or, is_some as is_given};
-    ghost use Rattle.facet_caps.specs.Empty.{empty_iterator};
     ghost use Rattle.facet_caps.specs.declared.list_type_ops.ListTypeOps.{ListTypeOps};
     ghost use Rattle.facet_caps.specs.PartialRecord.{PartialRecord};
 
     ghost Value = { PartialRecord ListTypeOps };
 
-    ghost view = { λ b. record {
-      members = record {
-        iter_vtable = unwrap_or b.iter_vtable empty_iterator;
-        init_in_place_with_capacity = b.init_in_place_with_capacity;
-        push = b.push;
-        pop = b.pop;
-        set_len = b.set_len;
-        as_mut_ptr_typed = b.as_mut_ptr_typed;
-        reserve = b.reserve;
-        capacity = b.capacity;
-        from_raw_parts = b.from_raw_parts;
-      };
-      given = is_given b.iter_vtable ∷ [];
-    } };
+    ghost view = { λ b. record { members = b.members; given = b.given } };
 }
 
 impl ListTypeOpsBuilder {
@@ -101,7 +73,8 @@ impl ListTypeOpsBuilder {
         ensures members { result.members ≡ record (self.members) { iter_vtable = value } }
         ensures given { result.given ≡ slice_set self.given 0 true }
     {
-        self.iter_vtable = Some(value);
+        self.members.iter_vtable = value;
+        self.given[0] = true;
         self
     }
 
@@ -111,7 +84,7 @@ impl ListTypeOpsBuilder {
             record (self.members) { init_in_place_with_capacity = value } }
         ensures given { result.given ≡ self.given }
     {
-        self.init_in_place_with_capacity = value;
+        self.members.init_in_place_with_capacity = value;
         self
     }
 
@@ -120,7 +93,7 @@ impl ListTypeOpsBuilder {
         ensures members { result.members ≡ record (self.members) { push = value } }
         ensures given { result.given ≡ self.given }
     {
-        self.push = value;
+        self.members.push = value;
         self
     }
 
@@ -129,7 +102,7 @@ impl ListTypeOpsBuilder {
         ensures members { result.members ≡ record (self.members) { pop = value } }
         ensures given { result.given ≡ self.given }
     {
-        self.pop = value;
+        self.members.pop = value;
         self
     }
 
@@ -138,7 +111,7 @@ impl ListTypeOpsBuilder {
         ensures members { result.members ≡ record (self.members) { set_len = value } }
         ensures given { result.given ≡ self.given }
     {
-        self.set_len = value;
+        self.members.set_len = value;
         self
     }
 
@@ -147,7 +120,7 @@ impl ListTypeOpsBuilder {
         ensures members { result.members ≡ record (self.members) { as_mut_ptr_typed = value } }
         ensures given { result.given ≡ self.given }
     {
-        self.as_mut_ptr_typed = value;
+        self.members.as_mut_ptr_typed = value;
         self
     }
 
@@ -156,7 +129,7 @@ impl ListTypeOpsBuilder {
         ensures members { result.members ≡ record (self.members) { reserve = value } }
         ensures given { result.given ≡ self.given }
     {
-        self.reserve = value;
+        self.members.reserve = value;
         self
     }
 
@@ -165,7 +138,7 @@ impl ListTypeOpsBuilder {
         ensures members { result.members ≡ record (self.members) { capacity = value } }
         ensures given { result.given ≡ self.given }
     {
-        self.capacity = value;
+        self.members.capacity = value;
         self
     }
 
@@ -174,7 +147,7 @@ impl ListTypeOpsBuilder {
         ensures members { result.members ≡ record (self.members) { from_raw_parts = value } }
         ensures given { result.given ≡ self.given }
     {
-        self.from_raw_parts = value;
+        self.members.from_raw_parts = value;
         self
     }
 
@@ -182,16 +155,6 @@ impl ListTypeOpsBuilder {
     pub fn build(self) -> Result<ListTypeOps, MissingField>
         ensures { result ≡ built self }
     {
-        Ok(ListTypeOps {
-            iter_vtable: self.iter_vtable.ok_or(MissingField(0))?,
-            init_in_place_with_capacity: self.init_in_place_with_capacity,
-            push: self.push,
-            pop: self.pop,
-            set_len: self.set_len,
-            as_mut_ptr_typed: self.as_mut_ptr_typed,
-            reserve: self.reserve,
-            capacity: self.capacity,
-            from_raw_parts: self.from_raw_parts,
-        })
+        unless_missing(&self.given, self.members)
     }
 }

@@ -2,6 +2,7 @@ ghost use Rattle.std.specs.Prelude.{◌≡◌, true, false, replicate, slice_set
 ghost use Rattle.facet_caps.specs.Empty.{empty_list};
 ghost use Rattle.facet_caps.specs.PartialRecord.{built};
 
+use crate::partial_record::unless_missing;
 use facet_base::MissingField;
 use std::marker::Model;
 
@@ -23,45 +24,33 @@ impl ListVTable {
         ensures given { result.given ≡ replicate 2 false }
     {
         ListVTableBuilder {
-            len: None,
-            get: None,
-            get_mut: false,
-            as_ptr: false,
-            as_mut_ptr: false,
-            swap: false,
+            members: ListVTable {
+                len: false,
+                get: false,
+                get_mut: false,
+                as_ptr: false,
+                as_mut_ptr: false,
+                swap: false,
+            },
+            given: [false; 2],
         }
     }
 }
 
-/// Makes a `ListVTable`. Required are, in this order: `len` and `get`.
+/// Builds a `ListVTable`. Required are, in this order: `len` and `get`.
 #[derive(Drop)]
 pub struct ListVTableBuilder {
-    len: Option<bool>,
-    get: Option<bool>,
-    get_mut: bool,
-    as_ptr: bool,
-    as_mut_ptr: bool,
-    swap: bool,
+    members: ListVTable,
+    given: [bool; 2],
 }
 
 impl Model for ListVTableBuilder {
-    ghost use Rattle.std.specs.Prelude.{[], ◌∷◌, false, unwrap_or, is_some as is_given};
     ghost use Rattle.facet_caps.specs.declared.list_vtable.ListVTable.{ListVTable};
     ghost use Rattle.facet_caps.specs.PartialRecord.{PartialRecord};
 
     ghost Value = { PartialRecord ListVTable };
 
-    ghost view = { λ b. record {
-      members = record {
-        len = unwrap_or b.len false;
-        get = unwrap_or b.get false;
-        get_mut = b.get_mut;
-        as_ptr = b.as_ptr;
-        as_mut_ptr = b.as_mut_ptr;
-        swap = b.swap;
-      };
-      given = is_given b.len ∷ is_given b.get ∷ [];
-    } };
+    ghost view = { λ b. record { members = b.members; given = b.given } };
 }
 
 impl ListVTableBuilder {
@@ -70,7 +59,8 @@ impl ListVTableBuilder {
         ensures members { result.members ≡ record (self.members) { len = value } }
         ensures given { result.given ≡ slice_set self.given 0 true }
     {
-        self.len = Some(value);
+        self.members.len = value;
+        self.given[0] = true;
         self
     }
 
@@ -79,7 +69,8 @@ impl ListVTableBuilder {
         ensures members { result.members ≡ record (self.members) { get = value } }
         ensures given { result.given ≡ slice_set self.given 1 true }
     {
-        self.get = Some(value);
+        self.members.get = value;
+        self.given[1] = true;
         self
     }
 
@@ -88,7 +79,7 @@ impl ListVTableBuilder {
         ensures members { result.members ≡ record (self.members) { get_mut = value } }
         ensures given { result.given ≡ self.given }
     {
-        self.get_mut = value;
+        self.members.get_mut = value;
         self
     }
 
@@ -97,7 +88,7 @@ impl ListVTableBuilder {
         ensures members { result.members ≡ record (self.members) { as_ptr = value } }
         ensures given { result.given ≡ self.given }
     {
-        self.as_ptr = value;
+        self.members.as_ptr = value;
         self
     }
 
@@ -106,7 +97,7 @@ impl ListVTableBuilder {
         ensures members { result.members ≡ record (self.members) { as_mut_ptr = value } }
         ensures given { result.given ≡ self.given }
     {
-        self.as_mut_ptr = value;
+        self.members.as_mut_ptr = value;
         self
     }
 
@@ -115,7 +106,7 @@ impl ListVTableBuilder {
         ensures members { result.members ≡ record (self.members) { swap = value } }
         ensures given { result.given ≡ self.given }
     {
-        self.swap = value;
+        self.members.swap = value;
         self
     }
 
@@ -123,13 +114,6 @@ impl ListVTableBuilder {
     pub fn build(self) -> Result<ListVTable, MissingField>
         ensures { result ≡ built self }
     {
-        Ok(ListVTable {
-            len: self.len.ok_or(MissingField(0))?,
-            get: self.get.ok_or(MissingField(1))?,
-            get_mut: self.get_mut,
-            as_ptr: self.as_ptr,
-            as_mut_ptr: self.as_mut_ptr,
-            swap: self.swap,
-        })
+        unless_missing(&self.given, self.members)
     }
 }

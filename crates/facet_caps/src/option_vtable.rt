@@ -2,6 +2,7 @@ ghost use Rattle.std.specs.Prelude.{◌≡◌, true, false, replicate, slice_set
 ghost use Rattle.facet_caps.specs.Empty.{empty_option};
 ghost use Rattle.facet_caps.specs.PartialRecord.{built};
 
+use crate::partial_record::unless_missing;
 use facet_base::MissingField;
 use std::marker::Model;
 
@@ -22,44 +23,33 @@ impl OptionVTable {
         ensures given { result.given ≡ replicate 5 false }
     {
         OptionVTableBuilder {
-            is_some: None,
-            get_value: None,
-            init_some: None,
-            init_none: None,
-            replace_with: None,
+            members: OptionVTable {
+                is_some: false,
+                get_value: false,
+                init_some: false,
+                init_none: false,
+                replace_with: false,
+            },
+            given: [false; 5],
         }
     }
 }
 
-/// Makes an `OptionVTable`. Required are, in this order: `is_some`, `get_value`, `init_some`, `init_none`,
+/// Builds an `OptionVTable`. Required are, in this order: `is_some`, `get_value`, `init_some`, `init_none`,
 /// `replace_with`.
 #[derive(Drop)]
 pub struct OptionVTableBuilder {
-    is_some: Option<bool>,
-    get_value: Option<bool>,
-    init_some: Option<bool>,
-    init_none: Option<bool>,
-    replace_with: Option<bool>,
+    members: OptionVTable,
+    given: [bool; 5],
 }
 
 impl Model for OptionVTableBuilder {
-    ghost use Rattle.std.specs.Prelude.{[], ◌∷◌, false, unwrap_or, is_some as is_given};
     ghost use Rattle.facet_caps.specs.declared.option_vtable.OptionVTable.{OptionVTable};
     ghost use Rattle.facet_caps.specs.PartialRecord.{PartialRecord};
 
     ghost Value = { PartialRecord OptionVTable };
 
-    ghost view = { λ b. record {
-      members = record {
-        is_some = unwrap_or b.is_some false;
-        get_value = unwrap_or b.get_value false;
-        init_some = unwrap_or b.init_some false;
-        init_none = unwrap_or b.init_none false;
-        replace_with = unwrap_or b.replace_with false;
-      };
-      given = is_given b.is_some ∷ is_given b.get_value ∷ is_given b.init_some ∷ is_given b.init_none ∷
-          is_given b.replace_with ∷ [];
-    } };
+    ghost view = { λ b. record { members = b.members; given = b.given } };
 }
 
 impl OptionVTableBuilder {
@@ -68,7 +58,8 @@ impl OptionVTableBuilder {
         ensures members { result.members ≡ record (self.members) { is_some = value } }
         ensures given { result.given ≡ slice_set self.given 0 true }
     {
-        self.is_some = Some(value);
+        self.members.is_some = value;
+        self.given[0] = true;
         self
     }
 
@@ -77,7 +68,8 @@ impl OptionVTableBuilder {
         ensures members { result.members ≡ record (self.members) { get_value = value } }
         ensures given { result.given ≡ slice_set self.given 1 true }
     {
-        self.get_value = Some(value);
+        self.members.get_value = value;
+        self.given[1] = true;
         self
     }
 
@@ -86,7 +78,8 @@ impl OptionVTableBuilder {
         ensures members { result.members ≡ record (self.members) { init_some = value } }
         ensures given { result.given ≡ slice_set self.given 2 true }
     {
-        self.init_some = Some(value);
+        self.members.init_some = value;
+        self.given[2] = true;
         self
     }
 
@@ -95,7 +88,8 @@ impl OptionVTableBuilder {
         ensures members { result.members ≡ record (self.members) { init_none = value } }
         ensures given { result.given ≡ slice_set self.given 3 true }
     {
-        self.init_none = Some(value);
+        self.members.init_none = value;
+        self.given[3] = true;
         self
     }
 
@@ -104,7 +98,8 @@ impl OptionVTableBuilder {
         ensures members { result.members ≡ record (self.members) { replace_with = value } }
         ensures given { result.given ≡ slice_set self.given 4 true }
     {
-        self.replace_with = Some(value);
+        self.members.replace_with = value;
+        self.given[4] = true;
         self
     }
 
@@ -112,12 +107,6 @@ impl OptionVTableBuilder {
     pub fn build(self) -> Result<OptionVTable, MissingField>
         ensures { result ≡ built self }
     {
-        Ok(OptionVTable {
-            is_some: self.is_some.ok_or(MissingField(0))?,
-            get_value: self.get_value.ok_or(MissingField(1))?,
-            init_some: self.init_some.ok_or(MissingField(2))?,
-            init_none: self.init_none.ok_or(MissingField(3))?,
-            replace_with: self.replace_with.ok_or(MissingField(4))?,
-        })
+        unless_missing(&self.given, self.members)
     }
 }

@@ -2,6 +2,7 @@ ghost use Rattle.std.specs.Prelude.{◌≡◌, true, false, replicate, slice_set
 ghost use Rattle.facet_caps.specs.Empty.{empty_result};
 ghost use Rattle.facet_caps.specs.PartialRecord.{built};
 
+use crate::partial_record::unless_missing;
 use facet_base::MissingField;
 use std::marker::Model;
 
@@ -22,43 +23,32 @@ impl ResultVTable {
         ensures given { result.given ≡ replicate 5 false }
     {
         ResultVTableBuilder {
-            is_ok: None,
-            get_ok: None,
-            get_err: None,
-            init_ok: None,
-            init_err: None,
+            members: ResultVTable {
+                is_ok: false,
+                get_ok: false,
+                get_err: false,
+                init_ok: false,
+                init_err: false,
+            },
+            given: [false; 5],
         }
     }
 }
 
-/// Makes a `ResultVTable`. Required are, in this order: `is_ok`, `get_ok`, `get_err`, `init_ok`, `init_err`.
+/// Builds a `ResultVTable`. Required are, in this order: `is_ok`, `get_ok`, `get_err`, `init_ok`, `init_err`.
 #[derive(Drop)]
 pub struct ResultVTableBuilder {
-    is_ok: Option<bool>,
-    get_ok: Option<bool>,
-    get_err: Option<bool>,
-    init_ok: Option<bool>,
-    init_err: Option<bool>,
+    members: ResultVTable,
+    given: [bool; 5],
 }
 
 impl Model for ResultVTableBuilder {
-    ghost use Rattle.std.specs.Prelude.{[], ◌∷◌, false, unwrap_or, is_some as is_given};
     ghost use Rattle.facet_caps.specs.declared.result_vtable.ResultVTable.{ResultVTable};
     ghost use Rattle.facet_caps.specs.PartialRecord.{PartialRecord};
 
     ghost Value = { PartialRecord ResultVTable };
 
-    ghost view = { λ b. record {
-      members = record {
-        is_ok = unwrap_or b.is_ok false;
-        get_ok = unwrap_or b.get_ok false;
-        get_err = unwrap_or b.get_err false;
-        init_ok = unwrap_or b.init_ok false;
-        init_err = unwrap_or b.init_err false;
-      };
-      given = is_given b.is_ok ∷ is_given b.get_ok ∷ is_given b.get_err ∷ is_given b.init_ok ∷
-          is_given b.init_err ∷ [];
-    } };
+    ghost view = { λ b. record { members = b.members; given = b.given } };
 }
 
 impl ResultVTableBuilder {
@@ -67,7 +57,8 @@ impl ResultVTableBuilder {
         ensures members { result.members ≡ record (self.members) { is_ok = value } }
         ensures given { result.given ≡ slice_set self.given 0 true }
     {
-        self.is_ok = Some(value);
+        self.members.is_ok = value;
+        self.given[0] = true;
         self
     }
 
@@ -76,7 +67,8 @@ impl ResultVTableBuilder {
         ensures members { result.members ≡ record (self.members) { get_ok = value } }
         ensures given { result.given ≡ slice_set self.given 1 true }
     {
-        self.get_ok = Some(value);
+        self.members.get_ok = value;
+        self.given[1] = true;
         self
     }
 
@@ -85,7 +77,8 @@ impl ResultVTableBuilder {
         ensures members { result.members ≡ record (self.members) { get_err = value } }
         ensures given { result.given ≡ slice_set self.given 2 true }
     {
-        self.get_err = Some(value);
+        self.members.get_err = value;
+        self.given[2] = true;
         self
     }
 
@@ -94,7 +87,8 @@ impl ResultVTableBuilder {
         ensures members { result.members ≡ record (self.members) { init_ok = value } }
         ensures given { result.given ≡ slice_set self.given 3 true }
     {
-        self.init_ok = Some(value);
+        self.members.init_ok = value;
+        self.given[3] = true;
         self
     }
 
@@ -103,7 +97,8 @@ impl ResultVTableBuilder {
         ensures members { result.members ≡ record (self.members) { init_err = value } }
         ensures given { result.given ≡ slice_set self.given 4 true }
     {
-        self.init_err = Some(value);
+        self.members.init_err = value;
+        self.given[4] = true;
         self
     }
 
@@ -111,12 +106,6 @@ impl ResultVTableBuilder {
     pub fn build(self) -> Result<ResultVTable, MissingField>
         ensures { result ≡ built self }
     {
-        Ok(ResultVTable {
-            is_ok: self.is_ok.ok_or(MissingField(0))?,
-            get_ok: self.get_ok.ok_or(MissingField(1))?,
-            get_err: self.get_err.ok_or(MissingField(2))?,
-            init_ok: self.init_ok.ok_or(MissingField(3))?,
-            init_err: self.init_err.ok_or(MissingField(4))?,
-        })
+        unless_missing(&self.given, self.members)
     }
 }

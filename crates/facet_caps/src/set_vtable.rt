@@ -3,6 +3,7 @@ ghost use Rattle.facet_caps.specs.Empty.{empty_set};
 ghost use Rattle.facet_caps.specs.PartialRecord.{built};
 
 use crate::iter_vtable::IterVTable;
+use crate::partial_record::unless_missing;
 use facet_base::MissingField;
 use std::marker::Model;
 
@@ -24,48 +25,34 @@ impl SetVTable {
         ensures given { result.given ≡ replicate 5 false }
     {
         SetVTableBuilder {
-            init_in_place_with_capacity: None,
-            insert: None,
-            len: None,
-            contains: None,
-            iter_vtable: None,
-            from_slice: false,
+            members: SetVTable {
+                init_in_place_with_capacity: false,
+                insert: false,
+                len: false,
+                contains: false,
+                iter_vtable: IterVTable::new(false, false),
+                from_slice: false,
+            },
+            given: [false; 5],
         }
     }
 }
 
-/// Makes a `SetVTable`. Required are, in this order: `init_in_place_with_capacity`, `insert`, `len`,
+/// Builds a `SetVTable`. Required are, in this order: `init_in_place_with_capacity`, `insert`, `len`,
 /// `contains`, `iter_vtable`.
 #[derive(Drop)]
 pub struct SetVTableBuilder {
-    init_in_place_with_capacity: Option<bool>,
-    insert: Option<bool>,
-    len: Option<bool>,
-    contains: Option<bool>,
-    iter_vtable: Option<IterVTable>,
-    from_slice: bool,
+    members: SetVTable,
+    given: [bool; 5],
 }
 
 impl Model for SetVTableBuilder {
-    ghost use Rattle.std.specs.Prelude.{[], ◌∷◌, false, unwrap_or, is_some as is_given};
-    ghost use Rattle.facet_caps.specs.Empty.{empty_iterator};
     ghost use Rattle.facet_caps.specs.declared.set_vtable.SetVTable.{SetVTable};
     ghost use Rattle.facet_caps.specs.PartialRecord.{PartialRecord};
 
     ghost Value = { PartialRecord SetVTable };
 
-    ghost view = { λ b. record {
-      members = record {
-        init_in_place_with_capacity = unwrap_or b.init_in_place_with_capacity false;
-        insert = unwrap_or b.insert false;
-        len = unwrap_or b.len false;
-        contains = unwrap_or b.contains false;
-        iter_vtable = unwrap_or b.iter_vtable empty_iterator;
-        from_slice = b.from_slice;
-      };
-      given = is_given b.init_in_place_with_capacity ∷ is_given b.insert ∷ is_given b.len ∷
-          is_given b.contains ∷ is_given b.iter_vtable ∷ [];
-    } };
+    ghost view = { λ b. record { members = b.members; given = b.given } };
 }
 
 impl SetVTableBuilder {
@@ -75,7 +62,8 @@ impl SetVTableBuilder {
             record (self.members) { init_in_place_with_capacity = value } }
         ensures given { result.given ≡ slice_set self.given 0 true }
     {
-        self.init_in_place_with_capacity = Some(value);
+        self.members.init_in_place_with_capacity = value;
+        self.given[0] = true;
         self
     }
 
@@ -84,7 +72,8 @@ impl SetVTableBuilder {
         ensures members { result.members ≡ record (self.members) { insert = value } }
         ensures given { result.given ≡ slice_set self.given 1 true }
     {
-        self.insert = Some(value);
+        self.members.insert = value;
+        self.given[1] = true;
         self
     }
 
@@ -93,7 +82,8 @@ impl SetVTableBuilder {
         ensures members { result.members ≡ record (self.members) { len = value } }
         ensures given { result.given ≡ slice_set self.given 2 true }
     {
-        self.len = Some(value);
+        self.members.len = value;
+        self.given[2] = true;
         self
     }
 
@@ -102,7 +92,8 @@ impl SetVTableBuilder {
         ensures members { result.members ≡ record (self.members) { contains = value } }
         ensures given { result.given ≡ slice_set self.given 3 true }
     {
-        self.contains = Some(value);
+        self.members.contains = value;
+        self.given[3] = true;
         self
     }
 
@@ -111,7 +102,8 @@ impl SetVTableBuilder {
         ensures members { result.members ≡ record (self.members) { iter_vtable = value } }
         ensures given { result.given ≡ slice_set self.given 4 true }
     {
-        self.iter_vtable = Some(value);
+        self.members.iter_vtable = value;
+        self.given[4] = true;
         self
     }
 
@@ -120,7 +112,7 @@ impl SetVTableBuilder {
         ensures members { result.members ≡ record (self.members) { from_slice = value } }
         ensures given { result.given ≡ self.given }
     {
-        self.from_slice = value;
+        self.members.from_slice = value;
         self
     }
 
@@ -128,13 +120,6 @@ impl SetVTableBuilder {
     pub fn build(self) -> Result<SetVTable, MissingField>
         ensures { result ≡ built self }
     {
-        Ok(SetVTable {
-            init_in_place_with_capacity: self.init_in_place_with_capacity.ok_or(MissingField(0))?,
-            insert: self.insert.ok_or(MissingField(1))?,
-            len: self.len.ok_or(MissingField(2))?,
-            contains: self.contains.ok_or(MissingField(3))?,
-            iter_vtable: self.iter_vtable.ok_or(MissingField(4))?,
-            from_slice: self.from_slice,
-        })
+        unless_missing(&self.given, self.members)
     }
 }

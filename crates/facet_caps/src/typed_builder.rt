@@ -3,7 +3,7 @@ ghost use Rattle.std.specs.Prelude.{◌≡◌};
 use crate::vtable::VTableDirect;
 use std::marker::Model;
 
-/// Makes a `VTableDirect`. Contracts see the record that `build` answers.
+/// Builds a `VTableDirect`. Contracts see the record so far.
 #[derive(Drop)]
 pub struct TypedVTableDirectBuilder {
     vtable: VTableDirect,
@@ -24,7 +24,7 @@ impl TypedVTableDirectBuilder {
         TypedVTableDirectBuilder { vtable }
     }
 
-    /// Sets whether values can be written for users.
+    /// Sets whether values have a `Display` text.
     pub fn display(mut self, value: bool) -> Self
         ensures { result ≡ record self { display = value } }
     {
@@ -32,7 +32,7 @@ impl TypedVTableDirectBuilder {
         self
     }
 
-    /// Sets whether values can be written for programmers.
+    /// Sets whether values have a `Debug` text.
     pub fn debug(mut self, value: bool) -> Self
         ensures { result ≡ record self { debug = value } }
     {

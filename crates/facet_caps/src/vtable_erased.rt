@@ -40,7 +40,7 @@ impl fmt::Debug for VTableErased {
 }
 
 impl VTableErased {
-    /// Whether values can be written for users.
+    /// Whether values have a `Display` text.
     pub fn has_display(&self) -> bool
         ensures { result ≡ (capabilities_of self.now).display }
     {
@@ -50,7 +50,7 @@ impl VTableErased {
         }
     }
 
-    /// Whether values can be written for programmers.
+    /// Whether values have a `Debug` text.
     pub fn has_debug(&self) -> bool
         ensures { result ≡ (capabilities_of self.now).debug }
     {

@@ -130,11 +130,11 @@ fn array_with(count: u32) -> ArrayVTableBuilder {
     builder
 }
 
-// The place that a refusal names.
+// The index that a refusal names.
 fn missing<T: Drop>(built: Result<T, MissingField>) -> Option<u32> {
     match built {
         Ok(_) => None,
-        Err(MissingField(place)) => Some(place),
+        Err(MissingField(index)) => Some(index),
     }
 }
 
@@ -154,37 +154,92 @@ fn refusals(count: u32) -> [(u32, Option<u32>); 7] {
 #[test]
 fn a_refusal_names_the_first_member_that_is_not_given(rt: HostRuntime) {
     for count in 0..9 {
-        for (required, place) in refusals(count) {
-            let wanted = if count < required { Some(count) } else { None };
-            assert_eq!(rt; place, wanted, "with {count} of {required}");
+        for (required, index) in refusals(count) {
+            let expected = if count < required { Some(count) } else { None };
+            assert_eq!(rt; index, expected, "with {count} of {required}");
         }
     }
 }
 
+// A later member does not stand for an earlier one.
 #[test]
-fn a_later_member_does_not_stand_for_an_earlier_one(rt: HostRuntime) {
-    assert_eq!(rt; missing(ListVTable::builder().get(true).build()), Some(0));
-    assert_eq!(rt;
-        missing(MapVTable::builder().value_offset_in_pair(8).build()),
-        Some(0)
-    );
-    assert_eq!(rt; missing(set_with(2).contains(true).build()), Some(2));
-    assert_eq!(rt; missing(option_with(3).replace_with(true).build()), Some(3));
+fn a_refusal_names_an_earlier_member_though_a_later_one_is_given(rt: HostRuntime) {
+    for (expected, index) in [
+        (0, missing(ListVTable::builder().get(true).build())),
+        (
+            0,
+            missing(MapVTable::builder().value_offset_in_pair(8).build()),
+        ),
+        (2, missing(set_with(2).contains(true).build())),
+        (3, missing(option_with(3).replace_with(true).build())),
+    ] {
+        assert_eq!(rt; index, Some(expected));
+    }
+}
+
+fn iterator_members(iterator: IterVTable) -> [bool; 5] {
+    [
+        iterator.next,
+        iterator.dealloc,
+        iterator.init_with_value,
+        iterator.next_back,
+        iterator.size_hint,
+    ]
+}
+
+fn map_members(map: MapVTable) -> ([bool; 6], usize, usize) {
+    let operations = [
+        map.init_in_place_with_capacity,
+        map.insert,
+        map.len,
+        map.contains_key,
+        map.get_value_ptr,
+        map.from_pair_slice,
+    ];
+    (operations, map.pair_stride, map.value_offset_in_pair)
+}
+
+fn list_members(list: ListVTable) -> [bool; 6] {
+    [
+        list.len,
+        list.get,
+        list.get_mut,
+        list.as_ptr,
+        list.as_mut_ptr,
+        list.swap,
+    ]
+}
+
+fn list_ops_members(list: ListTypeOps) -> [bool; 8] {
+    [
+        list.init_in_place_with_capacity,
+        list.push,
+        list.pop,
+        list.set_len,
+        list.as_mut_ptr_typed,
+        list.reserve,
+        list.capacity,
+        list.from_raw_parts,
+    ]
 }
 
 #[test]
-fn a_built_record_has_what_was_given(rt: HostRuntime) -> Result<(), Fail> {
+fn a_built_record_has_what_was_given_and_nothing_else(rt: HostRuntime) -> Result<(), Fail> {
     let map = map_with(8).len(false).build().ok().ok_or("a map")?;
-    assert!(rt; map.init_in_place_with_capacity && map.insert && !map.len && map.contains_key);
-    assert!(rt; map.get_value_ptr && map.iter_vtable.next && map.iter_vtable.dealloc);
-    assert!(rt; !map.iter_vtable.size_hint && map.from_pair_slice);
-    assert_eq!(rt; (map.pair_stride, map.value_offset_in_pair), (24, 8));
+    let operations = [true, true, false, true, true, true];
+    assert_eq!(rt; map_members(map), (operations, 24, 8));
+    let iterator = iterator_members(map.iter_vtable);
+    assert_eq!(rt; iterator, [true, true, false, false, false]);
     let list = list_with(2).build().ok().ok_or("a list")?;
-    assert!(rt;
-        list.len && list.get && !list.get_mut && list.as_ptr && !list.as_mut_ptr && list.swap
+    assert_eq!(rt; list_members(list), [true, true, false, true, false, true]);
+    let list_ops = list_type_ops_with(1).build().ok().ok_or("operations")?;
+    assert_eq!(rt;
+        list_ops_members(list_ops),
+        [false, true, false, false, false, true, false, false]
     );
     let bare = ListTypeOps::new(IterVTable::new(true, false));
-    assert!(rt; bare.iter_vtable.next && !bare.iter_vtable.dealloc && !bare.push && !bare.pop);
-    assert!(rt; !bare.set_len && !bare.reserve && !bare.capacity && !bare.from_raw_parts);
+    let iterator = iterator_members(bare.iter_vtable);
+    assert_eq!(rt; iterator, [true, false, false, false, false]);
+    assert_eq!(rt; list_ops_members(bare), [false; 8]);
     Ok(())
 }

@@ -5,10 +5,10 @@ use crate::vtable::{VTableDirect, VTableIndirect};
 use crate::vtable_erased::VTableErased;
 use std::test::Fail;
 
-// The builder that sets the member at a place of the record.
-fn with_member(place: usize, value: bool) -> TypedVTableDirectBuilder {
+// The builder that sets the member at an index of the record.
+fn with_member(index: usize, value: bool) -> TypedVTableDirectBuilder {
     let builder = VTableDirect::builder_for();
-    match place {
+    match index {
         0 => builder.display(value),
         1 => builder.debug(value),
         2 => builder.hash(value),
@@ -78,21 +78,21 @@ fn readers() -> [Option<usize>; 12] {
 
 #[test]
 fn each_question_reads_its_member_alone(rt: HostRuntime) {
-    for (place, reader) in readers().iter().enumerate() {
-        let vtable = with_member(place, true).build();
+    for (index, reader) in readers().iter().enumerate() {
+        let vtable = with_member(index, true).build();
         let direct = answers(&VTableErased::from(vtable));
         let generic = answers(&indirect(vtable).into());
         for answer in 0..11 {
-            let wanted = *reader == Some(answer);
+            let expected = *reader == Some(answer);
             assert_eq!(rt;
                 direct[answer],
-                wanted,
-                "question {answer} of member {place}"
+                expected,
+                "question {answer} of member {index}"
             );
             assert_eq!(rt;
                 generic[answer],
-                wanted,
-                "question {answer} of generic member {place}"
+                expected,
+                "question {answer} of generic member {index}"
             );
         }
     }
@@ -107,29 +107,42 @@ fn an_optional_setter_sets_and_unsets(rt: HostRuntime) {
         .partial_eq_opt(true)
         .partial_cmp_opt(true)
         .cmp_opt(true);
-    let all = set.debug_opt(false).cmp_opt(false).build();
-    assert!(rt;
-        all.display && !all.debug && all.hash && all.partial_eq && all.partial_cmp && !all.cmp
+    let vtable = set.debug_opt(false).cmp_opt(false).build();
+    assert_eq!(rt; vtable.try_into_inner, false);
+    assert_eq!(rt;
+        answers(&vtable.into()),
+        [
+            true, false, true, true, true, false, false, false, false, false, false
+        ]
     );
-    assert!(rt; !all.invariants && !all.parse && !all.parse_bytes && !all.try_from);
-    assert!(rt; !all.try_into_inner && !all.try_borrow_inner);
 }
 
-fn made<T: Default>() -> T {
+fn default_of<T: Default>() -> T {
     T::default()
+}
+
+fn pointer_members(pointer: PointerVTable) -> [bool; 8] {
+    [
+        pointer.upgrade_into_fn,
+        pointer.downgrade_into_fn,
+        pointer.borrow_fn,
+        pointer.new_into_fn,
+        pointer.lock_fn,
+        pointer.read_fn,
+        pointer.write_fn,
+        pointer.slice_builder_vtable.is_some(),
+    ]
 }
 
 #[test]
 fn defaults_have_no_member(rt: HostRuntime) {
     let none = [false; 11];
-    assert_eq!(rt; answers(&made::<VTableDirect>().into()), none);
-    assert_eq!(rt; answers(&made::<VTableIndirect>().into()), none);
+    assert_eq!(rt; answers(&default_of::<VTableDirect>().into()), none);
+    assert_eq!(rt; answers(&default_of::<VTableIndirect>().into()), none);
     assert_eq!(rt; answers(&VTableIndirect::EMPTY.into()), none);
     assert_eq!(rt; answers(&VTableDirect::builder().into()), none);
-    let pointer = made::<PointerVTable>();
-    assert!(rt; !pointer.upgrade_into_fn && !pointer.downgrade_into_fn && !pointer.borrow_fn);
-    assert!(rt; !pointer.new_into_fn && !pointer.lock_fn && !pointer.read_fn && !pointer.write_fn);
-    assert!(rt; pointer.slice_builder_vtable.is_none());
+    let pointer = default_of::<PointerVTable>();
+    assert_eq!(rt; pointer_members(pointer), [false; 8]);
 }
 
 #[test]
@@ -148,6 +161,14 @@ fn debug_texts_name_the_variant(rt: HostRuntime) -> Result<(), Fail> {
     Ok(())
 }
 
+fn operations(type_ops: &TypeOps) -> [bool; 3] {
+    [
+        type_ops.has_clone_into(),
+        type_ops.has_default_in_place(),
+        type_ops.truthiness_fn(),
+    ]
+}
+
 #[test]
 fn operations_are_read_from_either_record(rt: HostRuntime) {
     let direct = TypeOps::from(TypeOpsDirect {
@@ -156,16 +177,12 @@ fn operations_are_read_from_either_record(rt: HostRuntime) {
         clone_into: true,
         is_truthy: false,
     });
-    assert!(rt;
-        direct.has_clone_into() && !direct.has_default_in_place() && !direct.truthiness_fn()
-    );
+    assert_eq!(rt; operations(&direct), [true, false, false]);
     let generic = TypeOps::from(TypeOpsIndirect {
         drop_in_place: false,
         default_in_place: true,
         clone_into: false,
         is_truthy: true,
     });
-    assert!(rt;
-        !generic.has_clone_into() && generic.has_default_in_place() && generic.truthiness_fn()
-    );
+    assert_eq!(rt; operations(&generic), [false, true, true]);
 }
