@@ -16,8 +16,8 @@ use Rattle.facet_values.specs.Value.{leaf}
 use Rattle.facet_session.specs.declared.session.Session.{Session}
 use Rattle.facet_session.specs.declared.session.Cell.{Cell}
 use Rattle.facet_session.specs.declared.session.Answer.{Answer}
-use Rattle.facet_session.specs.declared.command.Command.{Command}
-use Rattle.facet_session.specs.Grammar.{command_of}
+use Rattle.facet_grammar.specs.declared.command.Command.{Command}
+use Rattle.facet_grammar.specs.Grammar.{command_of}
 use Rattle.facet_session.specs.Interpreter.{Entry, State, Turn, refused, is_taken, put_leaf, put_kind, put, turn_of, next, listed}
 use Rattle.facet_session.specs.Session.{ShowsEntry, ShowEntries, Shows, CarriesOut}
 use Rattle.facet_session.specs.Stepping.{Carries}

@@ -9,9 +9,9 @@ use Rattle.facet_shapes.specs.Registry.{kind_at}
 use Rattle.facet_shapes.specs.declared.value_kind.ValueKind.{ValueKind}
 use Rattle.facet_shapes.specs.declared.value_kind.ValueKind.TheVariants as kind
 use Rattle.facet_values.specs.Value.{leaf, leaves}
-use Rattle.facet_session.specs.declared.command.Command.{Command}
-use Rattle.facet_session.specs.declared.command.Command.TheVariants.{Put}
-use Rattle.facet_session.specs.Grammar.{command_of}
+use Rattle.facet_grammar.specs.declared.command.Command.{Command}
+use Rattle.facet_grammar.specs.declared.command.Command.TheVariants.{Put}
+use Rattle.facet_grammar.specs.Grammar.{command_of}
 use Rattle.facet_session.specs.Interpreter.{Entry, State, Turn, first_state, refused, is_taken, put_leaf, put_kind, put, turn_of, next, last, leaves_of_entries}
 use Rattle.facet_session.specs.Script.{lines, turns_from, state_after, after, made, dropped, Balances}
 

@@ -8,9 +8,9 @@ use Rattle.facet_shapes.specs.Registry.{Registry, kind_at}
 use Rattle.facet_shapes.specs.declared.value_kind.ValueKind.{ValueKind}
 use Rattle.facet_shapes.specs.declared.value_kind.ValueKind.TheVariants as kind
 use Rattle.facet_values.specs.Value.{Value, leaf, leaves}
-use Rattle.facet_session.specs.declared.command.Command.{Command}
-use Rattle.facet_session.specs.declared.command.Command.TheVariants.{Put}
-use Rattle.facet_session.specs.Grammar.{command_of}
+use Rattle.facet_grammar.specs.declared.command.Command.{Command}
+use Rattle.facet_grammar.specs.declared.command.Command.TheVariants.{Put}
+use Rattle.facet_grammar.specs.Grammar.{command_of}
 
 -- a named value of a shape
 pub record Entry (L : Type 0) : Type 0 where

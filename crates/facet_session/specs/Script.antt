@@ -1,12 +1,9 @@
 -- A whole run of the interpreter over the bytes of a script.
-use Rattle.std.specs.Prelude.{◌≡◌, ℕ, Bool, ◌+◌, List, [], ◌∷◌, ◌++◌, take, if◌then◌else◌, ◌==◌, count_by}
+use Rattle.std.specs.Prelude.{◌≡◌, ℕ, Bool, ◌+◌, List, [], ◌∷◌, ◌++◌, take, if◌then◌else◌, count_by}
 use Rattle.std.specs.List.{flat_map, onto_first}
 use Rattle.facet_leaf.specs.LeafModel.{LeafModel}
+pub use Rattle.facet_grammar.specs.Words.{is_newline}
 use Rattle.facet_session.specs.Interpreter.{State, Turn, first_state, next, last, leaves_of_entries, text_of}
-
--- a line ends at this byte
-abbrev pub is_newline : ℕ → Bool
-is_newline b = b == 10
 
 -- the lines, cut at each newline; what follows the last newline is one where it isn't empty
 abbrev pub lines : List ℕ → List (List ℕ)

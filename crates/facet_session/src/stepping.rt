@@ -7,11 +7,11 @@ ghost use Rattle.facet_session.specs.Session.{Shows, IsReady, CarriesOut, KeepsC
 ghost use Rattle.facet_session.specs.Stepping.{Carries};
 
 use crate::cells::{drop_values, is_taken};
-use crate::command::{Command, read_command};
 use crate::session::{Answer, Cell, Session};
 use crate::writing::{refuse, text_of_end, text_of_made};
 use facet_base::{Characteristic, Many, ScalarType, ShapeId, ShapeLayout, Text};
 use facet_block::{Block, Leaf, PtrUninit};
+use facet_grammar::{Command, read_command};
 use facet_shapes::{Shapes, ValueKind};
 use std::alloc::{AllocError, Global};
 

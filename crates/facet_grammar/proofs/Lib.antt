@@ -1,0 +1,9 @@
+mod Encoding
+mod Inverse
+mod Numbers
+mod OneToken
+mod Pieces
+mod Spellings
+mod Table
+mod Walking
+mod WordBytes

@@ -1,0 +1,38 @@
+-- What holds of each row of the table of commands.
+use Rattle.std.proofs.Common.{◌≡◌, ℕ, true, List, [], ◌∷◌, Some, refl, subst}
+use Rattle.std.specs.List.{slice_get}
+use Rattle.facet_grammar.specs.declared.token.Token.{Token}
+use Rattle.facet_grammar.specs.declared.token.Token.TheVariants.{Name, Reference, Rest}
+use Rattle.facet_grammar.specs.declared.row.Row.{Row}
+use Rattle.facet_grammar.specs.declared.row.Row.TheVariants as row
+use Rattle.facet_grammar.specs.declared.command.Command.{Command}
+use Rattle.facet_grammar.specs.declared.command.Command.TheVariants.{Put}
+use Rattle.facet_grammar.specs.Rows.{rows, form_of, command_from, row_of, tokens_of}
+use Rattle.facet_grammar.specs.Tokens.{kinds_are}
+
+-- a command has this row and these tokens
+pub record IsOf (row : Row) (tokens : List Token) (command : Command) : Type 0 where
+  pub same_row : row_of command ≡ row
+  pub same_tokens : tokens_of command ≡ tokens
+
+-- the same of a command that is known
+made_of : (made command : Command) → Some made ≡ Some command → IsOf (row_of made) (tokens_of made) command
+made_of made command e =
+    let same : made ≡ command = cc in
+    subst (IsOf (row_of made) (tokens_of made)) same (record { same_row = refl; same_tokens = refl })
+
+-- the command that tokens are has these tokens
+pub made : (r : Row) (tokens : List Token) (command : Command) → command_from r tokens ≡ Some command → IsOf r tokens command
+made row.Put (Name name ∷ Reference shape ∷ Rest text ∷ []) = made_of (Put name shape text)
+made _ _ = λ command e. let no : ⊥ = cc in absurd no
+
+-- a command is read back from its tokens, which are of the kinds of its row's form, and its row is in the table
+pub record IsListed (command : Command) : Type 0 where
+  pub index : ℕ
+  pub listed : slice_get rows index ≡ Some (row_of command)
+  pub back : command_from (row_of command) (tokens_of command) ≡ Some command
+  pub kinds : kinds_are (form_of (row_of command)) (tokens_of command) ≡ true
+
+-- each command of the enum
+pub is_listed : (command : Command) → IsListed command
+is_listed (Put _ _ _) = record { index = 0; listed = refl; back = refl; kinds = refl }
