@@ -6,7 +6,7 @@ use facet_base::Many;
 use std::alloc::{AllocError, Global};
 use std::marker::Model;
 
-/// A sink in memory, which holds what is written up to its room. It fails at the calls that it is told, and
+/// A sink in memory, which holds what is written up to its room. It fails at the calls that it was given, and
 /// where it is full.
 #[derive(Drop)]
 pub struct ListSink {

@@ -5,7 +5,7 @@ use crate::{Failed, Source};
 use facet_base::Many;
 use std::marker::Model;
 
-/// A source in memory, which gives the bytes of a list. It fails at the calls that it is told.
+/// A source in memory, which gives the bytes of a list. It fails at the calls that it was given.
 #[derive(Drop)]
 pub struct ListSource {
     bytes: Vec<u8>,

@@ -10,13 +10,13 @@ pub struct Failed;
 
 /// Where bytes come from.
 pub trait Source {
-    /// The bytes left, where the source tells them.
+    /// The bytes left, where they are known.
     ghost left: { Self → Option (List ℕ) };
 
-    /// How many bytes were taken so far. It stops at the last value of a `u64`, and never falls.
+    /// How many bytes were taken so far. It stops at the maximum of a `u64`, and never falls.
     ghost taken: { Self → ℕ };
 
-    /// How many calls failed so far. It stops at the last value of a `u64`, and never falls.
+    /// How many calls failed so far. It stops at the maximum of a `u64`, and never falls.
     ghost faults: { Self → ℕ };
 
     /// Takes the next bytes into the front of `buf`, none only at the end or where `buf` is empty. A failed
@@ -30,10 +30,10 @@ pub trait Source {
 
 /// Where bytes go to.
 pub trait Sink {
-    /// The bytes written, where the sink tells them.
+    /// The bytes written, where they are known.
     ghost written: { Self → Option (List ℕ) };
 
-    /// How many calls failed so far. It stops at the last value of a `u64`, and never falls.
+    /// How many calls failed so far. It stops at the maximum of a `u64`, and never falls.
     ghost faults: { Self → ℕ };
 
     /// Appends bytes from the front of `piece`, at least one where it isn't empty. A failed write appends
