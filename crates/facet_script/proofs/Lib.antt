@@ -1,4 +1,6 @@
-mod Course
-mod Handed
+mod AnsweredLines
 mod Lines
+mod ServedRuns
+mod ShownSessions
 mod Turns
+mod WrittenPieces

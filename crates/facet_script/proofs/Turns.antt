@@ -1,12 +1,13 @@
--- One more step of a run: what it adds to the answers, and the state that it leaves.
+-- One more turn of a run: what it adds to the answers, the state that it leaves and the leaves that it dropped.
 use Rattle.std.proofs.Common.{◌≡◌, ℕ, ◌+◌, ◌-◌, ◌<◌, List, [], ◌∷◌, ◌++◌, length, take, drop, sym, ◌∙◌, ap, refl, arith}
 use Rattle.std.specs.List.{flat_map}
-use Rattle.std.proofs.lemmas.List.{length-drop, drop_more, take_more, append-nil, take-append-drop, take-take}
+use Rattle.std.proofs.lemmas.List.{length-drop, drop_more, take_more, append-nil, take-append-drop, take-take, drop-take}
 use Rattle.std.proofs.lemmas.List.Concat.{flat_map-append}
 use Rattle.facet_leaf.specs.LeafModel.{LeafModel}
 use Rattle.facet_session.specs.Interpreter.{State, Turn, first_state}
 use Rattle.facet_session.specs.Script.{turns, state_after, answer_line, after, answers}
 use Rattle.facet_base.specs.Output.{IsPrefix}
+use Rattle.facet_script.specs.Run.{last_dropped}
 
 pub next_at : {A : Type 0} (xs : List A) (k : ℕ) (x : A) (ys : List A) → drop k xs ≡ x ∷ ys → (take (k + 1) xs ≡ take k xs ++ x ∷ []) × (drop (k + 1) xs ≡ ys)
 next_at xs k x ys e =
@@ -30,6 +31,17 @@ answers_next m script k turn rest e =
     ap (flat_map (answer_line m)) (next_at (turns m script) k turn rest e).0
     ∙ flat_map-append (answer_line m) (take k (turns m script)) (turn ∷ [])
     ∙ ap (λ ys. flat_map (answer_line m) (take k (turns m script)) ++ ys) (append-nil (answer_line m turn))
+
+pub dropped_last : {L : Type 0} (m : LeafModel L) (script : List ℕ) (k : ℕ) (turn : Turn L) (rest : List (Turn L)) → drop k (turns m script) ≡ turn ∷ rest → last_dropped m script (k + 1) ≡ turn.dropped
+unfolding last_dropped
+dropped_last m script k turn rest e =
+    let back : k + 1 - 1 ≡ k = omega arith in
+    let one = drop-take k 1 (turns m script) ∙ ap (take 1) e in
+    rw back (ap (flat_map (λ t. t.dropped)) one ∙ append-nil turn.dropped)
+
+pub dropped_none : {L : Type 0} (m : LeafModel L) (script : List ℕ) → last_dropped m script 0 ≡ []
+unfolding last_dropped
+dropped_none m script = refl
 
 -- the answers begin with those before the last
 pub answers_before : {L : Type 0} (m : LeafModel L) (script : List ℕ) (k : ℕ) → IsPrefix (answers m script (k - 1)) (answers m script k)

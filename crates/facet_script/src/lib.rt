@@ -1,13 +1,13 @@
 //! A script from a source, its answers to a sink.
 #![tactic(auto)]
 
-mod handing;
-mod reading;
+mod input;
+mod output;
 mod report;
 mod serving;
-mod top;
+mod whole_run;
 
 pub use facet_session::{Answer, Cell, Command, Session, finish, read_command, step};
 pub use facet_stream::{Failed, ListSink, ListSource, Sink, Source};
 pub use report::{Report, Status};
-pub use top::run;
+pub use whole_run::run;

@@ -1,13 +1,13 @@
-ghost use Rattle.std.specs.Prelude.{◌≡◌, ◌⊎◌, ◌<◌, ◌≤◌, ◌+◌, [], ◌∷◌, ℕ, length, IfOk, IfErr, OnOk};
+ghost use Rattle.std.specs.Prelude.{◌≡◌, ◌≢◌, ◌⊎◌, ◌<◌, ◌≤◌, ◌+◌, [], ◌∷◌, ℕ, length, IfOk, IfErr, OnOk};
 ghost use Rattle.std.specs.List.{before_first, after_first, position_or_len};
-ghost use Rattle.facet_session.specs.Script.{is_newline, lines, after};
+ghost use Rattle.facet_session.specs.Script.{is_newline, after};
 ghost use Rattle.facet_session.specs.Interpreter.{last};
 ghost use Rattle.facet_session.specs.Session.{IsNew};
 ghost use Rattle.facet_stream.specs.Causes.{Rose};
 ghost use Rattle.facet_script.specs.Run.{Serves, IsCutShort};
-ghost use Rattle.facet_script.specs.Serving.{Stands};
+ghost use Rattle.facet_script.specs.Progress.{HasAnswered};
 
-use crate::handing::hand_line;
+use crate::output::write_line;
 use crate::{Report, Status};
 use facet_block::Leaf;
 use facet_session::{Session, finish, step};
@@ -26,7 +26,7 @@ pub fn serve<L: Leaf, K: Sink>(
     ensures dropped { result.status ≡ Status.Ok → session.new.cells.items ≡ [] }
     ensures status { (result.status ≡ Status.Ok) ⊎ IsCutShort result.status }
     ensures failed { result.status ≡ Status.WriteFault → Rose (K.faults sink.old) (K.faults sink.new) }
-    ensures kept { result.status ≡ Status.Ok → K.faults sink.new ≡ K.faults sink.old }
+    ensures kept { result.status ≢ Status.WriteFault → K.faults sink.new ≡ K.faults sink.old }
 {
     let lines = match serve_lines(alloc, script, sink, session) {
         Ok(lines) => lines,
@@ -42,7 +42,7 @@ pub fn serve<L: Leaf, K: Sink>(
         }
     };
     let lines = lines + 1;
-    match hand_line(sink, answer.text) {
+    match write_line(sink, answer.text) {
         Ok(()) => Report {
             status: Status::Ok,
             lines,
@@ -62,13 +62,14 @@ fn serve_lines<L: Leaf, K: Sink>(
     session: &mut Session<L>,
 ) -> Result<usize, Report>
     requires { IsNew L.model session.old }
-    ensures stands { IfOk result (λ k. Stands L.model script.now k (last (after L.model script.now k) ∷ []) (K.written sink.old) (K.written sink.new) session.new) }
-    ensures count { IfOk result (λ k. (k ≡ length (lines script.now)) × (k ≤ length script.now)) }
+    ensures progress { IfOk result (λ k. HasAnswered L.model script.now k (last (after L.model script.now k) ∷ []) (K.written sink.old) (K.written sink.new) session.new) }
+    ensures few { IfOk result (λ k. k ≤ length script.now) }
     ensures kept { OnOk result (K.faults sink.new ≡ K.faults sink.old) }
 
     ensures served { IfErr result (λ report. Serves L.model script.now report (K.written sink.old) (K.written sink.new) session.new) }
     ensures status { IfErr result (λ report. IsCutShort report.status) }
     ensures failed { IfErr result (λ report. report.status ≡ Status.WriteFault → Rose (K.faults sink.old) (K.faults sink.new)) }
+    ensures kept_after { IfErr result (λ report. report.status ≢ Status.WriteFault → K.faults sink.new ≡ K.faults sink.old) }
 {
     let mut rest = script;
     let mut lines = 0;
@@ -84,7 +85,7 @@ fn serve_lines<L: Leaf, K: Sink>(
             }
         };
         lines += 1;
-        match hand_line(sink, answer.text) {
+        match write_line(sink, answer.text) {
             Ok(()) => rest = after,
             Err(error) => {
                 return Err(Report {

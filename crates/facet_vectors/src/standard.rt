@@ -1,4 +1,4 @@
-// The standard streams, with counts of what failed. They tell no bytes.
+// The standard streams, with counts of what failed. Their bytes are not known.
 ghost use Rattle.std.specs.Prelude.{None, ◌≡◌, ◌<◌, ◌≤◌, length, IfSome, IfOk, OnOk, OnErr};
 ghost use Rattle.std.specs.Io.{ReadsAtMost, WritesAtMost};
 ghost use Rattle.facet_stream.specs.Causes.{raised};

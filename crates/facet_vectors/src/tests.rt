@@ -1,12 +1,16 @@
 ghost use Rattle.std.specs.Prelude.{◌<◌};
 
+mod rows;
+
 use crate::fault::MainFault;
 use facet_base::{Many, Text, Write};
 use facet_leaf::Scalar;
 use facet_script::{Report, Session, Status, run};
 use facet_session::{Command, read_command};
 use facet_stream::{ListSink, ListSource};
+use rows::{ROWS, ROWS_WITH_ESCAPES};
 use std::alloc::{AllocError, Global};
+use std::process::Abort;
 use std::test::Fail;
 
 // How calls go: which reads and writes fail, and how many bytes one moves at most.
@@ -52,9 +56,9 @@ fn run_over(
     })
 }
 
-// Runs over a script without words, with room for 1,000 bytes.
+// Runs over a script without words, with room for 10,000 bytes.
 fn run_script(alloc: Global, script: &[u8], calls: Calls) -> Result<Outcome, AllocError> {
-    run_over(alloc, &Vec::new(alloc), script, 1000, calls)
+    run_over(alloc, &Vec::new(alloc), script, 10_000, calls)
 }
 
 fn all_well(most: usize) -> Calls<'static>
@@ -71,144 +75,63 @@ fn report(status: Status, lines: usize) -> Report {
     Report { status, lines }
 }
 
-#[test]
-fn each_script_has_its_answers(rt: HostRuntime) -> Result<(), Fail> {
-    for (script, answers, lines) in [
-        ("", "end\n", 1),
-        ("put a #6 5", "ok made [5]\nend dropped [5]\n", 2),
-        (
-            "put a #6 4294967295\nput b #6 4294967296\nput b #6 +7\n",
-            "ok made [4294967295]\nbad text\nok made [7]\nend dropped [4294967295, 7]\n",
-            4,
-        ),
-        (
-            "put a #6 1\nput a #99 x\neq a b\nput a #6 x\nput b #6 x\nput b #0 x\nput b #6\n\n",
-            "ok made [1]\nno such shape\nsyntax\ntaken\nbad text\nunsupported\nsyntax\nsyntax\nend dropped [1]\n",
-            9,
-        ),
-        (
-            "put a #6 007\nput b #6 +0\nput c #6 -0\nput d #6 \nput d #6 1 2\nput d #6  1\n",
-            "ok made [7]\nok made [0]\nbad text\nbad text\nbad text\nbad text\nend dropped [7, 0]\n",
-            7,
-        ),
-        (
-            "put a #15 x\nput a #16 x\nput a #999999999 x\nput a #1000000000 x\nput a #06 x\nput a 6 x\n",
-            "bad text\nno such shape\nno such shape\nsyntax\nsyntax\nsyntax\nend\n",
-            7,
-        ),
-        (
-            "put abcdefghijklmnopqrstuvwxyz_01234 #6 1\nput abcdefghijklmnopqrstuvwxyz_012345 #6 1\nput a-b #6 1\n",
-            "ok made [1]\nsyntax\nsyntax\nend dropped [1]\n",
-            4,
-        ),
-        (
-            "put s #3 \nput s #3 x\nput t #3 a\"b\\c\n",
-            "ok made [\"\"]\ntaken\nok made [\"a\\\"b\\\\c\"]\nend dropped [\"\", \"a\\\"b\\\\c\"]\n",
-            4,
-        ),
-        (
-            "put s #3 \nput t #3 a\"b\\c\nput n #14 -170141183460469231731687303715884105728\nput c #2 é\nput b #1 yes\nput u #0 x\n",
-            "ok made [\"\"]\nok made [\"a\\\"b\\\\c\"]\nok made [-170141183460469231731687303715884105728]\nok made ['é']\nbad text\nunsupported\nend dropped [\"\", \"a\\\"b\\\\c\", -170141183460469231731687303715884105728, 'é']\n",
-            7,
-        ),
-        (
-            "put  a #6 1\n put a #6 1\nput a #6 1\r\nput a  #6 1\nPut a #6 1\n",
-            "syntax\nsyntax\nbad text\nsyntax\nsyntax\nend\n",
-            6,
-        ),
-    ] {
-        let outcome = run_script(rt.alloc(), script.as_bytes(), all_well(4096))?;
+// A row's script, and the answers to it.
+fn parts(alloc: Global, row: &str) -> Result<(String, String), AllocError> {
+    let mut script = String::new(alloc);
+    let mut answers = String::new(alloc);
+    for line in row.lines() {
+        let answer = match line.split_once(" => ") {
+            Some((command, answer)) => {
+                script.push_str(command)?;
+                script.push('\n')?;
+                answer
+            }
+            None => line,
+        };
+        answers.push_str(answer)?;
+        answers.push('\n')?;
+    }
+    Ok((script, answers))
+}
+
+// Runs each script over calls that move so many bytes at most.
+fn rows_are_answered(rt: &impl Abort, alloc: Global, rows: &str, most: usize) -> Result<(), Fail>
+    requires { 0 < most }
+{
+    for row in rows.split("\n\n") {
+        let (script, answers) = parts(alloc, row)?;
+        let outcome = run_script(alloc, script.as_bytes(), all_well(most))?;
         assert_eq!(rt;
             outcome.written.as_slice(),
             answers.as_bytes(),
-            "at {script:?}"
+            "at {row:?}"
         );
-        assert_eq!(rt; outcome.report, report(Status::Ok, lines), "at {script:?}");
-        assert_eq!(rt; outcome.cells, 0, "at {script:?}");
+        let lines = answers.lines().count();
+        assert_eq!(rt; outcome.report, report(Status::Ok, lines), "at {row:?}");
+        assert_eq!(rt; outcome.cells, 0, "at {row:?}");
     }
     Ok(())
 }
 
 #[test]
-fn each_kind_takes_its_texts_and_no_others(rt: HostRuntime) -> Result<(), Fail> {
-    for (script, answers) in [
-        (
-            "put a #1 true\nput b #1 false\nput c #1 yes\nput c #1 True\nput c #1 true \nput c #1 1\nput c #1 \n",
-            "ok made [true]\nok made [false]\nbad text\nbad text\nbad text\nbad text\nbad text\nend dropped [true, false]\n",
-        ),
-        (
-            "put a #2 \0\nput b #2 \x01\nput c #2 \x1f\nput d #2  \nput e #2 ~\nput f #2 \x7f\nput g #2 \u{80}\nput h #2 \u{10ffff}\nput i #2 \nput i #2 ab\nput i #2 e\u{301}\n",
-            "ok made ['\\0']\nok made ['\\u{1}']\nok made ['\\u{1f}']\nok made [' ']\nok made ['~']\nok made ['\\u{7f}']\nok made ['\u{80}']\nok made ['\u{10ffff}']\nbad text\nbad text\nbad text\nend dropped ['\\0', '\\u{1}', '\\u{1f}', ' ', '~', '\\u{7f}', '\u{80}', '\u{10ffff}']\n",
-        ),
-        (
-            "put a #2 \t\nput b #2 \r\nput c #2 \\\nput d #2 '\nput e #2 \"\n",
-            "ok made ['\\t']\nok made ['\\r']\nok made ['\\\\']\nok made ['\\'']\nok made ['\"']\nend dropped ['\\t', '\\r', '\\\\', '\\'', '\"']\n",
-        ),
-        (
-            "put a #3 \nput b #3  \nput c #3 \t\r\0\\\"\nput d #3 'é\x0b\x7f\n",
-            "ok made [\"\"]\nok made [\" \"]\nok made [\"\\t\\r\\0\\\\\\\"\"]\nok made [\"'é\\u{b}\\u{7f}\"]\nend dropped [\"\", \" \", \"\\t\\r\\0\\\\\\\"\", \"'é\\u{b}\\u{7f}\"]\n",
-        ),
-        (
-            "put a #4 0\nput b #4 255\nput c #4 256\nput c #4 -0\n",
-            "ok made [0]\nok made [255]\nbad text\nbad text\nend dropped [0, 255]\n",
-        ),
-        (
-            "put a #5 0\nput b #5 65535\nput c #5 65536\nput c #5 -1\n",
-            "ok made [0]\nok made [65535]\nbad text\nbad text\nend dropped [0, 65535]\n",
-        ),
-        (
-            "put a #6 0\nput b #6 4294967295\nput c #6 4294967296\nput c #6 -0\n",
-            "ok made [0]\nok made [4294967295]\nbad text\nbad text\nend dropped [0, 4294967295]\n",
-        ),
-        (
-            "put a #7 0\nput b #7 18446744073709551615\nput c #7 18446744073709551616\nput c #7 -1\n",
-            "ok made [0]\nok made [18446744073709551615]\nbad text\nbad text\nend dropped [0, 18446744073709551615]\n",
-        ),
-        (
-            "put a #8 0\nput b #8 340282366920938463463374607431768211455\nput c #8 340282366920938463463374607431768211456\nput c #8 -0\n",
-            "ok made [0]\nok made [340282366920938463463374607431768211455]\nbad text\nbad text\nend dropped [0, 340282366920938463463374607431768211455]\n",
-        ),
-        (
-            "put a #9 0\nput b #9 18446744073709551615\nput c #9 18446744073709551616\nput c #9 -1\n",
-            "ok made [0]\nok made [18446744073709551615]\nbad text\nbad text\nend dropped [0, 18446744073709551615]\n",
-        ),
-        (
-            "put a #10 127\nput b #10 -128\nput c #10 128\nput c #10 -129\n",
-            "ok made [127]\nok made [-128]\nbad text\nbad text\nend dropped [127, -128]\n",
-        ),
-        (
-            "put a #11 32767\nput b #11 -32768\nput c #11 32768\nput c #11 -32769\n",
-            "ok made [32767]\nok made [-32768]\nbad text\nbad text\nend dropped [32767, -32768]\n",
-        ),
-        (
-            "put a #12 2147483647\nput b #12 -2147483648\nput c #12 2147483648\nput c #12 -2147483649\n",
-            "ok made [2147483647]\nok made [-2147483648]\nbad text\nbad text\nend dropped [2147483647, -2147483648]\n",
-        ),
-        (
-            "put a #13 9223372036854775807\nput b #13 -9223372036854775808\nput c #13 9223372036854775808\nput c #13 -9223372036854775809\n",
-            "ok made [9223372036854775807]\nok made [-9223372036854775808]\nbad text\nbad text\nend dropped [9223372036854775807, -9223372036854775808]\n",
-        ),
-        (
-            "put a #14 170141183460469231731687303715884105727\nput b #14 -170141183460469231731687303715884105728\nput c #14 170141183460469231731687303715884105728\nput c #14 -170141183460469231731687303715884105729\n",
-            "ok made [170141183460469231731687303715884105727]\nok made [-170141183460469231731687303715884105728]\nbad text\nbad text\nend dropped [170141183460469231731687303715884105727, -170141183460469231731687303715884105728]\n",
-        ),
-        (
-            "put a #15 9223372036854775807\nput b #15 -9223372036854775808\nput c #15 9223372036854775808\nput c #15 -9223372036854775809\n",
-            "ok made [9223372036854775807]\nok made [-9223372036854775808]\nbad text\nbad text\nend dropped [9223372036854775807, -9223372036854775808]\n",
-        ),
-        (
-            "put a #10 +0\nput b #10 -0\nput c #10 -007\nput d #10 \nput d #10 +\nput d #10 -\nput d #10 +-1\nput d #10 --1\nput d #10 1 \nput d #10 1.0\nput d #10 0x1\nput d #10 \u{663}\n",
-            "ok made [0]\nok made [0]\nok made [-7]\nbad text\nbad text\nbad text\nbad text\nbad text\nbad text\nbad text\nbad text\nbad text\nend dropped [0, 0, -7]\n",
-        ),
-    ] {
-        let outcome = run_script(rt.alloc(), script.as_bytes(), all_well(4096))?;
-        assert_eq!(rt;
-            outcome.written.as_slice(),
-            answers.as_bytes(),
-            "at {script:?}"
-        );
-        assert_eq!(rt; outcome.report.status, Status::Ok, "at {script:?}");
-    }
+fn each_script_has_its_answers(rt: HostRuntime) -> Result<(), Fail> {
+    rows_are_answered(&rt, rt.alloc(), ROWS, 4096)?;
+    rows_are_answered(&rt, rt.alloc(), ROWS_WITH_ESCAPES, 4096)
+}
+
+#[test]
+fn bytes_come_and_go_one_by_one(rt: HostRuntime) -> Result<(), Fail> {
+    rows_are_answered(&rt, rt.alloc(), ROWS, 1)
+}
+
+#[test]
+fn a_last_line_without_a_newline_is_answered(rt: HostRuntime) -> Result<(), Fail> {
+    let outcome = run_script(rt.alloc(), b"put a #6 5\nput b #6 2", all_well(4096))?;
+    assert_eq!(rt; outcome.report, report(Status::Ok, 3));
+    assert_eq!(rt;
+        outcome.written.as_slice(),
+        b"ok made [5]\nok made [2]\nend dropped [5, 2]\n".as_slice()
+    );
     Ok(())
 }
 
@@ -222,21 +145,6 @@ fn a_line_that_is_not_utf8_is_syntax(rt: HostRuntime) -> Result<(), Fail> {
     assert_eq!(rt;
         outcome.written.as_slice(),
         b"syntax\nsyntax\nend\n".as_slice()
-    );
-    Ok(())
-}
-
-#[test]
-fn bytes_come_and_go_one_by_one(rt: HostRuntime) -> Result<(), Fail> {
-    let outcome = run_script(
-        rt.alloc(),
-        b"put a #6 5\nput a #6 1\nput b #6 2",
-        all_well(1),
-    )?;
-    assert_eq!(rt; outcome.report, report(Status::Ok, 4));
-    assert_eq!(rt;
-        outcome.written.as_slice(),
-        b"ok made [5]\ntaken\nok made [2]\nend dropped [5, 2]\n".as_slice()
     );
     Ok(())
 }
@@ -285,6 +193,24 @@ fn a_failed_write_keeps_what_was_carried_out(rt: HostRuntime) -> Result<(), Fail
             answers.get(..failing - 1)
         );
     }
+    Ok(())
+}
+
+#[test]
+fn an_answer_and_its_newline_are_written_at_once(rt: HostRuntime) -> Result<(), Fail> {
+    let script = b"put a #6 4294967295\nput b #6 4294967296\nput b #6 +7\n";
+    let calls = Calls {
+        reads: &[],
+        writes: &[2],
+        most: 4096,
+    };
+    let outcome = run_script(rt.alloc(), script, calls)?;
+    assert_eq!(rt; outcome.report, report(Status::WriteFault, 2));
+    assert_eq!(rt;
+        outcome.written.as_slice(),
+        b"ok made [4294967295]\n".as_slice()
+    );
+    assert_eq!(rt; outcome.cells, 1);
     Ok(())
 }
 

@@ -1,6 +1,6 @@
 use Rattle.std.proofs.Common.{◌≡◌, ◌+◌, ◌≤◌, length}
 use Rattle.facet_session.specs.Script.{lines, turns_from, after}
-use Rattle.facet_script.specs.Serving.{Stands}
+use Rattle.facet_script.specs.Progress.{HasAnswered}
 use Rattle.facet_script.proofs.serving.serve_lines.Given as goal
 
 abbrev pub invariant-loop-rest : goal.invariant-loop-rest
@@ -9,8 +9,7 @@ invariant-loop-rest g l =
     let written = g.K.Sink.written in
     let faults = g.K.Sink.faults in
     record {
-      stands : Stands m l.script l.lines (turns_from m (after m l.script l.lines) (lines l.rest)) (written l.fn.sink) (written l.sink) l.session;
-      count : l.lines + length (lines l.rest) ≡ length (lines l.script);
+      progress : HasAnswered m l.script l.lines (turns_from m (after m l.script l.lines) (lines l.rest)) (written l.fn.sink) (written l.sink) l.session;
       few : l.lines + length l.rest ≤ length l.script;
       kept : faults l.sink ≡ faults l.fn.sink;
     }

@@ -1,11 +1,10 @@
-ghost use Rattle.std.specs.Prelude.{◌≡◌, ◌↔◌, ◌+◌, ◌<◌, ◌≤◌, [], List, ℕ, length, vec_len, IsSomeAnd};
+ghost use Rattle.std.specs.Prelude.{◌≡◌, ◌≢◌, ◌↔◌, ◌+◌, ◌<◌, ◌≤◌, [], List, ℕ, length, vec_len, IsSomeAnd};
 ghost use Rattle.std.specs.Io.KnownBytes.{IsAtEnd};
 ghost use Rattle.facet_session.specs.Session.{IsNew};
 ghost use Rattle.facet_stream.specs.Causes.{Rose, RoseBy};
-ghost use Rattle.facet_script.specs.Handed.{Tells};
-ghost use Rattle.facet_script.specs.Run.{Serves, Steady, IsServed};
+ghost use Rattle.facet_script.specs.Run.{FitsKnown, Serves, Steady, IsServed};
 
-use crate::reading::{LIMIT, ReadError, read_all};
+use crate::input::{LIMIT, PIECE, ReadError, read_all};
 use crate::serving::serve;
 use crate::{Report, Status};
 use facet_block::Leaf;
@@ -24,8 +23,8 @@ pub fn run<L: Leaf, S: Source, K: Sink>(
 ) -> Report
     requires { IsNew L.model session.old }
 
-    // What was written and what the session holds, for the script that the source had left, where it tells that.
-    ensures served { (script : List ℕ) × Tells (S.left source.old) script
+    // What was written and what the session holds, for the script that the source had left, where that is known.
+    ensures served { (script : List ℕ) × FitsKnown (S.left source.old) script
         × Serves L.model script result (K.written sink.old) (K.written sink.new) session.new }
     ensures read { result.status ≡ Status.Ok → IsAtEnd (S.left source.new) }
     ensures dropped { result.status ≡ Status.Ok → session.new.cells.items ≡ [] }
@@ -38,9 +37,11 @@ pub fn run<L: Leaf, S: Source, K: Sink>(
     ensures too_long { result.status ≡ Status.TooLong → RoseBy (LIMIT + 1) (S.taken source.old) (S.taken source.new) }
     ensures too_long_only { S.taken source.old + LIMIT < S.taken source.new → result.status ≡ Status.TooLong }
 
-    // No fault is passed over, and nothing else stops a run but want of memory.
-    ensures no_fault { result.status ≡ Status.Ok →
-        (S.faults source.new ≡ S.faults source.old) × (K.faults sink.new ≡ K.faults sink.old) }
+    ensures taken { S.taken source.new ≤ S.taken source.old + LIMIT + PIECE }
+
+    // No fault is passed over, and nothing else stops a run but running out of memory.
+    ensures no_read_fault { result.status ≢ Status.ReadFault → S.faults source.new ≡ S.faults source.old }
+    ensures no_write_fault { result.status ≢ Status.WriteFault → K.faults sink.new ≡ K.faults sink.old }
     ensures complete { vec_len words.now ≡ 0 → IsSomeAnd (S.left source.old) (λ script. length script ≤ LIMIT) →
         Steady (S.faults source.old) (S.faults source.new) → Steady (K.faults sink.old) (K.faults sink.new) →
         IsServed result.status }

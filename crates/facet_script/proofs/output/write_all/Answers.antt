@@ -1,7 +1,7 @@
 use Rattle.std.proofs.Common.{arith, ◌∙◌}
 use Rattle.std.proofs.lemmas.List.{take_rest, length-drop}
-use Rattle.facet_script.proofs.Handed.{appends_next, appends_beginning}
-use Rattle.facet_script.proofs.handing.hand_all.Goals as goal
+use Rattle.facet_script.proofs.WrittenPieces.{appends_next, appends_beginning}
+use Rattle.facet_script.proofs.output.write_all.Goals as goal
 
 pub loop-sent-preserved : goal.loop-sent-preserved
 loop-sent-preserved g c =

@@ -1,7 +1,7 @@
 use Rattle.std.proofs.Common.{◌≡◌, ◌-◌, ◌≤◌, vec_len}
 use Rattle.std.specs.Io.KnownBytes.{Consumes}
 use Rattle.facet_stream.specs.Causes.{raised}
-use Rattle.facet_script.proofs.reading.read_all.Given as goal
+use Rattle.facet_script.proofs.input.read_all.Given as goal
 
 abbrev pub invariant-reading : goal.invariant-reading
 invariant-reading g l =
