@@ -101,4 +101,12 @@ impl<T: Drop> Many<T> {
         self.items.push(x)?;
         Ok(())
     }
+
+    /// Drops all items. The spare does not fall.
+    pub fn clear(&mut self)
+        ensures items { self.new.items ≡ [] }
+        ensures spare { self.old.spare ≤ self.new.spare }
+    {
+        self.items.clear();
+    }
 }

@@ -1,8 +1,7 @@
 -- Blocks and sequences as plain data: a block is a finite map from offsets in bytes to items. Layers above read them by
 -- these words alone, and define by cases on an item with the patterns `Leaf x`, `Tag n` and `Sequence s` of
 -- `declared.block.Item`, ended by `_`.
-use Rattle.std.specs.Prelude.{ℕ, ◌+◌, List, ◌++◌, Option, None, Some, length, replicate, slice_get, slice_set, take, drop, unwrap_or}
-use Rattle.std.specs.List.{slice_rotate_right}
+use Rattle.std.specs.Prelude.{ℕ, ◌+◌, ◌-◌, List, ◌++◌, Option, None, Some, length, replicate, slice_get, slice_set, take, drop, unwrap_or}
 use Rattle.facet_block.specs.declared.block.Item.{Item, Leaf, Tag, Sequence}
 use Rattle.facet_block.specs.declared.block.ItemKind.{ItemKind}
 use Rattle.facet_block.specs.declared.block.ItemKind.TheVariants as kind
@@ -26,7 +25,7 @@ abbrev pub item_kind : {X : Type 0} → Option (Item X) → ItemKind
 item_kind (Some (Leaf x)) = kind.Leaf
 item_kind (Some (Tag n)) = kind.Tag
 item_kind (Some (Sequence s)) = kind.Sequence
-item_kind _ = kind.Nothing
+item_kind None = kind.Nothing
 
 -- which kind of item lies at an offset
 abbrev pub item_kind_at : {X : Type 0} → Block X → ℕ → ItemKind
@@ -80,9 +79,12 @@ with_spare s ss = make_seq (element_size_of s) (filled_of s) ss
 abbrev pub with_new_spare : {X : Type 0} → Seq X → ℕ → Seq X
 with_new_spare s count = with_spare s (spare_of s ++ replicate count (empty_block (element_size_of s)))
 
--- the list with its last item moved to place i, and those from there on each one place further
+-- the list with its last element at index i, and the others in their order
 abbrev pub last_moved_to : {A : Type 0} → ℕ → List A → List A
-last_moved_to i xs = take i xs ++ slice_rotate_right (drop i xs) 1
+last_moved_to i xs =
+    let others = take (length xs - 1) xs in
+    let last = drop (length xs - 1) xs in
+    take i others ++ last ++ drop i others
 
 -- the leaf, where there is one
 abbrev pub leaf_of : {X : Type 0} → Option (Item X) → Option X

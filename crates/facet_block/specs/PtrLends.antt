@@ -1,7 +1,7 @@
--- What a pointer's block ends as, once a loan that the pointer gave is over.
-use Rattle.std.specs.Prelude.{[], Some}
+-- The block of a pointer once an item was put into it, or once a borrow that the pointer gave has ended.
+use Rattle.std.specs.Prelude.{ℕ, ◌+◌, [], Some}
 use Rattle.std.specs.Borrow.{Lends, MutBor, Fml, RattleType}
-use Rattle.facet_block.specs.declared.block.Item.{Leaf, Sequence}
+use Rattle.facet_block.specs.declared.block.Item.{Item, Leaf, Sequence}
 use Rattle.facet_block.specs.declared.block.Block.{Block}
 use Rattle.facet_block.specs.declared.block.Seq.{Seq}
 use Rattle.facet_block.specs.declared.ptr_mut.PtrMut.{PtrMut}
@@ -20,17 +20,25 @@ first_lifetime = record { mir = named 0; lft = [] }
 abbrev pub with_block : {X : Type 0} → PtrMut X → Block X → PtrMut X
 with_block p b = record p { block = record (p.block) { now = b } }
 
+-- the pointer whose block has this item `n` bytes past the place
+abbrev pub with_item_past : {X : Type 0} → PtrMut X → ℕ → Item X → PtrMut X
+with_item_past p n item = with_block p (with_item p.block.now (p.offset + n) (Some item))
+
 module _ (T : RattleType) where
-  -- the pointer's block is lent, and it ends as what was left
+  -- the pointer's block is borrowed, and it ends as what was left
   abbrev pub LendsPointedBlock : MutBor (PtrMut T.Denot) → MutBor (Block T.Denot) → Fml
   LendsPointedBlock s r = Lends (ptr.the_row first_lifetime T) (block.the_row T) s r (λ w. with_block s.now w)
 
-  -- the leaf at the place is lent, and the pointer's block ends with the leaf that was left there
+  -- the leaf at the place is borrowed, and the pointer's block ends with the leaf that was left there
   abbrev pub LendsPointedLeaf : MutBor (PtrMut T.Denot) → MutBor T.Denot → Fml
   LendsPointedLeaf s r =
       Lends (ptr.the_row first_lifetime T) T s r (λ w. with_block s.now (with_item s.now.block.now s.now.offset (Some (Leaf w))))
 
-  -- the sequence at the place is lent, and the pointer's block ends with the sequence that was left there
+  -- the sequence at the place is borrowed, and the pointer's block ends with the sequence that was left there
   abbrev pub LendsPointedSequence : MutBor (PtrMut T.Denot) → MutBor (Seq T.Denot) → Fml
   LendsPointedSequence s r =
       Lends (ptr.the_row first_lifetime T) (seq.the_row T) s r (λ w. with_block s.now (with_item s.now.block.now s.now.offset (Some (Sequence w))))
+
+  -- the sequence `n` bytes past the place is borrowed, and the pointer's block ends with the sequence that was left there
+  abbrev pub LendsSequencePast : MutBor (PtrMut T.Denot) → ℕ → MutBor (Seq T.Denot) → Fml
+  LendsSequencePast s n r = Lends (ptr.the_row first_lifetime T) (seq.the_row T) s r (λ w. with_item_past s.now n (Sequence w))

@@ -15,7 +15,7 @@ use std::alloc::{AllocError, Global};
 pub enum Item<L> {
     /// A scalar.
     Leaf(L),
-    /// The place of the variant that an enum has.
+    /// The index of an enum's variant.
     Tag(u32),
     /// The blocks of the elements of a list.
     Sequence(Seq<L>),
@@ -46,6 +46,7 @@ pub struct Seq<L> {
 }
 
 impl<L> Item<L> {
+    // Borrows the leaf that the item is for writing.
     fn leaf_mut(&mut self) -> &mut L
         requires { item_kind (Some self.old) ≡ ItemKind.Leaf }
         ensures* lends { sem 𝓛 (LendsLeaf L.row self.entry result) }
@@ -57,6 +58,7 @@ impl<L> Item<L> {
         }
     }
 
+    // Borrows the sequence that the item is for writing.
     fn sequence_mut(&mut self) -> &mut Seq<L>
         requires { item_kind (Some self.old) ≡ ItemKind.Sequence }
         ensures* lends { sem 𝓛 (LendsSequence L.row self.entry result) }
@@ -70,7 +72,7 @@ impl<L> Item<L> {
 }
 
 impl<L: Drop> Block<L> {
-    /// A block of `size` bytes with no item. A refusal comes only for want of memory.
+    /// A block of `size` bytes with no item. An error comes only when out of memory.
     pub fn new(alloc: Global, size: usize) -> Result<Block<L>, AllocError>
         ensures { IfOk result (λ block. block ≡ empty_block size) }
     {
@@ -78,7 +80,7 @@ impl<L: Drop> Block<L> {
         Ok(Block { items })
     }
 
-    /// Puts `item` at the offset, and gives back what was there.
+    /// Puts `item` at the offset, and returns what was there.
     pub(crate) fn exchange(&mut self, at: usize, item: Option<Item<L>>) -> Option<Item<L>>
         requires { at < size_of self.old }
         ensures gives { result ≡ item_at self.old at }
@@ -169,7 +171,7 @@ impl<L> Block<L> {
         }
     }
 
-    /// Lends the leaf at the offset.
+    /// Borrows the leaf at the offset for writing.
     pub(crate) fn leaf_mut(&mut self, at: usize) -> &mut L
         requires { item_kind_at self.old at ≡ ItemKind.Leaf }
         ensures* lends { sem 𝓛 (LendsLeafAt L.row self.entry at result) }
@@ -181,7 +183,7 @@ impl<L> Block<L> {
         }
     }
 
-    /// Lends the sequence at the offset.
+    /// Borrows the sequence at the offset for writing.
     pub(crate) fn sequence_mut(&mut self, at: usize) -> &mut Seq<L>
         requires { item_kind_at self.old at ≡ ItemKind.Sequence }
         ensures* lends { sem 𝓛 (LendsSequenceAt L.row self.entry at result) }
@@ -194,14 +196,14 @@ impl<L> Block<L> {
     }
 }
 
-/// A block with no item, of the layout's size. A refusal comes only for want of memory.
+/// A block with no item, of the layout's size. An error comes only when out of memory.
 pub fn alloc_for_layout<L: Drop>(alloc: Global, layout: Layout) -> Result<Block<L>, AllocError>
     ensures { IfOk result (λ block. block ≡ empty_block layout.size) }
 {
     Block::new(alloc, layout.size)
 }
 
-/// Gives the memory of a block back. No item lies in it.
+/// Frees the memory of a block, in which no item lies.
 pub fn dealloc_for_layout<L: Drop>(block: Block<L>)
     requires { IsEmptyIn block (span 0 (size_of block)) }
 {

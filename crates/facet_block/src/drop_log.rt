@@ -1,24 +1,24 @@
 ghost use Rattle.std.specs.Prelude.{◌≡◌, [], ◌∷◌, ◌++◌, ◌+◌, ◌<◌, ◌≤◌, OnOk, OnErr};
 
+use facet_base::Many;
 use std::alloc::{AllocError, Global};
 use std::marker::Model;
 
 /// The leaves that were dropped, in order. Contracts see them, and the spare: how many more it takes without
-/// asking for memory.
+/// allocating memory.
 #[derive(Drop)]
 pub struct DropLog<L> {
-    leaves: Vec<L>,
+    leaves: Many<L>,
 }
 
 impl<L> Model for DropLog<L> {
-    ghost use Rattle.std.specs.Prelude.{vec_len, vec_capacity, ◌-◌};
-    ghost use Rattle.facet_block.specs.LeafLog.{LeafLog, log_code};
+    ghost use Rattle.facet_block.specs.LeafLog.{LeafLog, log_code, log_of};
 
     ghost Value = { LeafLog L };
 
     ghost coded = { log_code L.code };
 
-    ghost view = { λ log. record { leaves = log.leaves.items; spare = vec_capacity log.leaves - vec_len log.leaves } };
+    ghost view = { λ log. log_of log.leaves };
 }
 
 impl<L> DropLog<L> {
@@ -27,7 +27,7 @@ impl<L> DropLog<L> {
         ensures { result.leaves ≡ [] }
     {
         DropLog {
-            leaves: Vec::new(alloc),
+            leaves: Many::new(alloc),
         }
     }
 
@@ -38,14 +38,14 @@ impl<L> DropLog<L> {
         self.leaves.as_slice()
     }
 
-    /// How many more leaves it takes without asking for memory.
+    /// How many more leaves it takes without allocating memory.
     pub fn spare(&self) -> usize
         ensures { result ≡ self.now.spare }
     {
-        self.leaves.capacity() - self.leaves.len()
+        self.leaves.spare()
     }
 
-    /// Makes the spare at least `n`. The leaves stay, whatever the answer, and the spare never falls.
+    /// Makes the spare at least `n`. The leaves stay, also after an error, and the spare never falls.
     pub fn make_room(&mut self, n: usize) -> Result<(), AllocError>
         ensures leaves { self.new.leaves ≡ self.old.leaves }
         ensures spare { self.old.spare ≤ self.new.spare }

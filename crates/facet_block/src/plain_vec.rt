@@ -25,7 +25,7 @@ impl<T> Model for PlainVec<T> {
 }
 
 impl<T: Drop> PlainVec<Option<T>> {
-    /// A list of so many times `None`.
+    /// A list of `count` times `None`. An error comes only when out of memory.
     pub fn nones(alloc: Global, count: usize) -> Result<PlainVec<Option<T>>, AllocError>
         ensures { IfOk result (λ v. v ≡ replicate count None) }
     {
@@ -45,14 +45,14 @@ impl<T> PlainVec<T> {
         self.items.len()
     }
 
-    /// The item at place `i`, and none exactly at or above the length.
+    /// The item at index `i`, and none exactly at or above the length.
     pub fn get(&self, i: usize) -> Option<&T>
         ensures { option_copied result ≡ slice_get self.now i }
     {
         self.items.get(i)
     }
 
-    /// Lends the item at place `i`, and none exactly at or above the length.
+    /// Borrows the item at index `i` for writing, and none exactly at or above the length.
     pub fn get_mut(&mut self, i: usize) -> Option<&mut T>
         ensures* lends { sem 𝓛 (LendsEntry T.row self.entry i result) }
         ensures value { option_copied_mut result ≡ slice_get self.old i }
@@ -62,7 +62,7 @@ impl<T> PlainVec<T> {
 }
 
 impl<T: Drop> PlainVec<T> {
-    /// Puts `item` at place `i`, and gives back what was there.
+    /// Puts `item` at index `i`, and returns what was there.
     pub fn replace(&mut self, i: usize, item: T) -> T
         requires { i < length self.old }
         ensures gives { slice_get self.old i ≡ Some result }

@@ -6,7 +6,7 @@ ghost use Rattle.facet_block.specs.declared.block.ItemKind.{ItemKind};
 use crate::block::{Block, Seq};
 use std::alloc::AllocError;
 
-/// A place in a block that is lent for reading: the block, and the offset in bytes.
+/// A place in a block that is borrowed for reading: the block, and the offset in bytes.
 pub struct PtrConst<'a, L> {
     pub block: &'a Block<L>,
     pub offset: usize,
@@ -43,7 +43,7 @@ impl<'a, L> PtrConst<'a, L> {
         self.offset
     }
 
-    /// The block, for as long as it is lent.
+    /// The block, for as long as it is borrowed.
     pub fn block(&self) -> &'a Block<L>
         ensures { result.now ≡ self.now.block.now }
     {
@@ -63,7 +63,7 @@ impl<'a, L> PtrConst<'a, L> {
         }
     }
 
-    /// The leaf at the place, for as long as the block is lent.
+    /// The leaf at the place, for as long as the block is borrowed.
     pub fn get(&self) -> &'a L
         requires { item_kind_at self.now.block.now self.now.offset ≡ ItemKind.Leaf }
         ensures { item_at self.now.block.now self.now.offset ≡ Some (Leaf result.now) }
@@ -79,7 +79,7 @@ impl<'a, L> PtrConst<'a, L> {
         self.block.tag(self.offset)
     }
 
-    /// The sequence at the place, for as long as the block is lent.
+    /// The sequence at the place, for as long as the block is borrowed.
     pub fn seq(&self) -> &'a Seq<L>
         requires { item_kind_at self.now.block.now self.now.offset ≡ ItemKind.Sequence }
         ensures { item_at self.now.block.now self.now.offset ≡ Some (Sequence result.now) }

@@ -1,5 +1,6 @@
 ghost use Rattle.std.specs.Prelude.{◌≡◌, ◌+◌, ◌<◌, ◌≤◌, Some, None};
 ghost use Rattle.facet_block.specs.Block.{size_of, item_at, with_item, moved_in, moved_out};
+ghost use Rattle.facet_block.specs.PtrLends.{with_item_past};
 ghost use Rattle.facet_block.specs.Span.{span, IsVacant};
 ghost use Rattle.facet_block.specs.Uninit.{place_of};
 ghost use Rattle.facet_block.specs.declared.block.Item.{Leaf, Tag, Sequence};
@@ -11,7 +12,7 @@ use crate::ptr_mut::PtrMut;
 #[derive(Drop)]
 pub enum Never {}
 
-/// A place in a block that is lent to be filled. It is always `At`: the second variant has no value, and is there
+/// A place in a block that is borrowed to be filled. It is always `At`: the second variant has no value, and is there
 /// so that a caller learns what became of the block through a call that turns one kind of pointer into another.
 #[derive(Drop)]
 pub enum PtrUninit<'a, L> {
@@ -69,7 +70,20 @@ impl<'a, L> PtrUninit<'a, L> {
 }
 
 impl<'a, L: Drop> PtrUninit<'a, L> {
-    /// Puts a leaf at the empty place, and answers the place for reading and writing.
+    // Puts an item at the empty place, and returns the place for reading and writing.
+    fn fill(self, item: Item<L>) -> PtrMut<'a, L>
+        requires below { (place_of self).offset < size_of (place_of self).block.now }
+        requires empty { item_at (place_of self).block.now (place_of self).offset ≡ None }
+        ensures same_block { result.block.ghost_name ≡ (place_of self.entry).block.ghost_name }
+        ensures offset { result.offset ≡ (place_of self.entry).offset }
+        ensures block { result.block.now ≡ with_item (place_of self.entry).block.now (place_of self.entry).offset (Some item) }
+    {
+        let mut place = self.assume_init();
+        place.fill_at(0, item);
+        place
+    }
+
+    /// Puts a leaf at the empty place, and returns the place for reading and writing.
     pub fn put(self, leaf: L) -> PtrMut<'a, L>
         requires below { (place_of self).offset < size_of (place_of self).block.now }
         requires empty { item_at (place_of self).block.now (place_of self).offset ≡ None }
@@ -77,12 +91,10 @@ impl<'a, L: Drop> PtrUninit<'a, L> {
         ensures offset { result.offset ≡ (place_of self.entry).offset }
         ensures block { result.block.now ≡ with_item (place_of self.entry).block.now (place_of self.entry).offset (Some (Leaf leaf)) }
     {
-        let PtrMut { block, offset } = self.assume_init();
-        block.exchange(offset, Some(Item::Leaf(leaf)));
-        PtrMut { block, offset }
+        self.fill(Item::Leaf(leaf))
     }
 
-    /// Puts a tag at the empty place, and answers the place for reading and writing.
+    /// Puts a tag at the empty place, and returns the place for reading and writing.
     pub fn put_tag(self, n: u32) -> PtrMut<'a, L>
         requires below { (place_of self).offset < size_of (place_of self).block.now }
         requires empty { item_at (place_of self).block.now (place_of self).offset ≡ None }
@@ -90,12 +102,10 @@ impl<'a, L: Drop> PtrUninit<'a, L> {
         ensures offset { result.offset ≡ (place_of self.entry).offset }
         ensures block { result.block.now ≡ with_item (place_of self.entry).block.now (place_of self.entry).offset (Some (Tag n)) }
     {
-        let PtrMut { block, offset } = self.assume_init();
-        block.exchange(offset, Some(Item::Tag(n)));
-        PtrMut { block, offset }
+        self.fill(Item::Tag(n))
     }
 
-    /// Puts a sequence at the empty place, and answers the place for reading and writing.
+    /// Puts a sequence at the empty place, and returns the place for reading and writing.
     pub fn put_seq(self, s: Seq<L>) -> PtrMut<'a, L>
         requires below { (place_of self).offset < size_of (place_of self).block.now }
         requires empty { item_at (place_of self).block.now (place_of self).offset ≡ None }
@@ -103,12 +113,57 @@ impl<'a, L: Drop> PtrUninit<'a, L> {
         ensures offset { result.offset ≡ (place_of self.entry).offset }
         ensures block { result.block.now ≡ with_item (place_of self.entry).block.now (place_of self.entry).offset (Some (Sequence s)) }
     {
-        let PtrMut { block, offset } = self.assume_init();
-        block.exchange(offset, Some(Item::Sequence(s)));
-        PtrMut { block, offset }
+        self.fill(Item::Sequence(s))
     }
 
-    /// Moves what lies in `size` bytes at `src` to here, where nothing lies, and answers the place for reading and
+    // Puts an item at the empty place `n` bytes further.
+    fn fill_at(&mut self, n: usize, item: Item<L>)
+        requires below { (place_of self.old).offset + n < size_of (place_of self.old).block.now }
+        requires empty { item_at (place_of self.old).block.now ((place_of self.old).offset + n) ≡ None }
+        ensures same_reference { (place_of self.new).block.ghost_name ≡ (place_of self.old).block.ghost_name }
+        ensures same_size { size_of (place_of self.new).block.now ≡ size_of (place_of self.old).block.now }
+        ensures puts { place_of self.new ≡ with_item_past (place_of self.old) n item }
+    {
+        match self {
+            PtrUninit::At(place) => place.fill_at(n, item),
+            PtrUninit::Not(never) => match *never {},
+        }
+    }
+
+    /// Puts a leaf at the empty place `n` bytes further.
+    pub fn put_at(&mut self, n: usize, leaf: L)
+        requires below { (place_of self.old).offset + n < size_of (place_of self.old).block.now }
+        requires empty { item_at (place_of self.old).block.now ((place_of self.old).offset + n) ≡ None }
+        ensures same_reference { (place_of self.new).block.ghost_name ≡ (place_of self.old).block.ghost_name }
+        ensures same_size { size_of (place_of self.new).block.now ≡ size_of (place_of self.old).block.now }
+        ensures puts { place_of self.new ≡ with_item_past (place_of self.old) n (Leaf leaf) }
+    {
+        self.fill_at(n, Item::Leaf(leaf));
+    }
+
+    /// Puts a tag at the empty place `n` bytes further.
+    pub fn put_tag_at(&mut self, n: usize, tag: u32)
+        requires below { (place_of self.old).offset + n < size_of (place_of self.old).block.now }
+        requires empty { item_at (place_of self.old).block.now ((place_of self.old).offset + n) ≡ None }
+        ensures same_reference { (place_of self.new).block.ghost_name ≡ (place_of self.old).block.ghost_name }
+        ensures same_size { size_of (place_of self.new).block.now ≡ size_of (place_of self.old).block.now }
+        ensures puts { place_of self.new ≡ with_item_past (place_of self.old) n (Tag tag) }
+    {
+        self.fill_at(n, Item::Tag(tag));
+    }
+
+    /// Puts a sequence at the empty place `n` bytes further.
+    pub fn put_seq_at(&mut self, n: usize, s: Seq<L>)
+        requires below { (place_of self.old).offset + n < size_of (place_of self.old).block.now }
+        requires empty { item_at (place_of self.old).block.now ((place_of self.old).offset + n) ≡ None }
+        ensures same_reference { (place_of self.new).block.ghost_name ≡ (place_of self.old).block.ghost_name }
+        ensures same_size { size_of (place_of self.new).block.now ≡ size_of (place_of self.old).block.now }
+        ensures puts { place_of self.new ≡ with_item_past (place_of self.old) n (Sequence s) }
+    {
+        self.fill_at(n, Item::Sequence(s));
+    }
+
+    /// Moves what lies in `size` bytes at `src` to here, where nothing lies, and returns the place for reading and
     /// writing. The bytes at `src` are empty afterwards.
     pub fn move_from(self, src: PtrMut<'_, L>, size: usize) -> PtrMut<'a, L>
         requires vacant { IsVacant (place_of self).block.now (span (place_of self).offset size) }

@@ -47,7 +47,7 @@ impl<L> Seq<L> {
         self.blocks.front(i)
     }
 
-    /// Lends filled block `i`, and none exactly at or above the length.
+    /// Borrows filled block `i` for writing, and none exactly at or above the length.
     pub fn get_mut(&mut self, i: usize) -> Option<&mut Block<L>>
         ensures* lends { sem 𝓛 (LendsFilled L.row self.entry i result) }
         ensures value { option_copied_mut result ≡ slice_get (filled_of self.old) i }
@@ -67,7 +67,7 @@ impl<L> Seq<L> {
         self.blocks.back(j)
     }
 
-    /// Lends spare block `j`.
+    /// Borrows spare block `j` for writing.
     pub fn slot_mut(&mut self, j: usize) -> &mut Block<L>
         requires { j < length (spare_of self.old) }
         ensures* lends { sem 𝓛 (LendsSpare L.row self.entry j result) }
@@ -94,7 +94,7 @@ impl<L> Seq<L> {
         self.blocks.swap_front(i, j);
     }
 
-    /// Moves the last filled block to place `i`, and those from there on each one place further.
+    /// Moves the last filled block to index `i`. The others keep their order.
     pub fn rotate_last_to(&mut self, i: usize)
         requires { i < length (filled_of self.old) }
         ensures { self.new ≡ with_filled self.old (last_moved_to i (filled_of self.old)) }
@@ -104,8 +104,8 @@ impl<L> Seq<L> {
 }
 
 impl<L: Drop> Seq<L> {
-    /// Makes the spare at least `n`: the blocks that are missing come behind the others, with no item. A refusal,
-    /// which comes only for want of memory, may leave some of them there.
+    /// Makes the spare at least `n`: the blocks that are missing come behind the others, with no item. An error, which
+    /// comes only when out of memory, may leave some of them there.
     pub fn reserve(&mut self, n: usize) -> Result<(), AllocError>
         ensures ok { OnOk result (self.new ≡ with_new_spare self.old (n - length (spare_of self.old))) }
         ensures err { OnErr result ((made : ℕ) × (made + length (spare_of self.old) < n) × (self.new ≡ with_new_spare self.old made)) }
@@ -118,7 +118,7 @@ impl<L: Drop> Seq<L> {
         Ok(())
     }
 
-    // Adds a block with no item behind the spare ones.
+    // Adds a block with no item behind the spare ones. After an error the sequence is as before.
     fn add_spare(&mut self) -> Result<(), AllocError>
         ensures ok { OnOk result (self.new ≡ with_new_spare self.old 1) }
         ensures err { OnErr result (self.new ≡ self.old) }

@@ -57,7 +57,7 @@ impl<T> Split<T> {
         self.items.len() - self.front
     }
 
-    /// The item at place `i` of the front, and none exactly at or above its length.
+    /// The item at index `i` of the front, and none exactly at or above its length.
     pub fn front(&self, i: usize) -> Option<&T>
         ensures { option_copied result ≡ slice_get self.now.0 i }
     {
@@ -68,7 +68,7 @@ impl<T> Split<T> {
         }
     }
 
-    /// The item at place `j` of the back.
+    /// The item at index `j` of the back.
     pub fn back(&self, j: usize) -> &T
         requires { j < length self.now.1 }
         ensures { slice_get self.now.1 j ≡ Some result.now }
@@ -77,7 +77,7 @@ impl<T> Split<T> {
         &self.items[self.front + j]
     }
 
-    /// Lends the item at place `i` of the front.
+    /// Borrows the item at index `i` of the front for writing.
     pub fn front_mut(&mut self, i: usize) -> &mut T
         requires { i < length self.old.0 }
         ensures* lends { sem 𝓛 (LendsFront T.row self.entry i result) }
@@ -86,7 +86,7 @@ impl<T> Split<T> {
         &mut self.items[i]
     }
 
-    /// Lends the item at place `j` of the back.
+    /// Borrows the item at index `j` of the back for writing.
     pub fn back_mut(&mut self, j: usize) -> &mut T
         requires { j < length self.old.1 }
         ensures* lends { sem 𝓛 (LendsBack T.row self.entry j result) }
@@ -114,7 +114,7 @@ impl<T> Split<T> {
         self.items.swap(i, j);
     }
 
-    /// Moves the last item of the front to its place `i`, and those from there on each one place further.
+    /// Moves the last item of the front to its index `i`. The others keep their order.
     pub fn move_last_to(&mut self, i: usize)
         requires { i < length self.old.0 }
         ensures { self.new ≡ (last_moved_to i self.old.0, self.old.1) }
@@ -122,7 +122,7 @@ impl<T> Split<T> {
         self.items[i..self.front].rotate_right(1);
     }
 
-    /// Asks for memory for `count` items more.
+    /// Allocates memory for `count` items more.
     pub fn reserve(&mut self, count: usize) -> Result<(), AllocError>
         ensures same { self.new ≡ self.old }
         ensures err { OnErr result (0 < count) }
@@ -132,7 +132,7 @@ impl<T> Split<T> {
 }
 
 impl<T: Drop> Split<T> {
-    /// Adds an item at the end of the back. A refusal drops it.
+    /// Adds an item at the end of the back. An error drops it.
     pub fn push_back(&mut self, item: T) -> Result<(), AllocError>
         ensures ok { OnOk result (self.new ≡ (self.old.0, self.old.1 ++ item ∷ [])) }
         ensures err { OnErr result (self.new ≡ self.old) }

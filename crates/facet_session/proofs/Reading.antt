@@ -7,7 +7,7 @@ use Rattle.facet_block.specs.declared.block.Item.{Item, Leaf, Tag, Sequence}
 use Rattle.facet_block.specs.declared.block.Block.{Block}
 use Rattle.facet_block.specs.Block.{item_at, item_kind, size_of, leaf_of, empty_block, with_item}
 use Rattle.facet_block.specs.declared.block.ItemKind.TheVariants as item
-use Rattle.facet_block.proofs.Ranges.{size-empty, item-empty, size-with_item, item-there, item-elsewhere}
+use Rattle.facet_block.proofs.Ranges.{size_empty, item_empty, size_with_item, item_there, item_elsewhere}
 use Rattle.facet_block.specs.Span.{IsBeside}
 use Rattle.facet_shape.specs.declared.shape.Shape.{Shape}
 use Rattle.facet_shapes.specs.Registry.{Registry, kind_of_found, kind_at, size_at}
@@ -31,13 +31,13 @@ start_of s block = record { shape = s; block = block; offset = 0 }
 
 module _ {L : Type 0} (x : L) where
   first_item : (size : ℕ) → 0 < size → item_at (leaf_block size x) 0 ≡ Some (Leaf x)
-  first_item size some = item-there (empty_block size) 0 (Some (Leaf x)) (omega (arith, size-empty L size))
+  first_item size some = item_there (empty_block size) 0 (Some (Leaf x)) (omega (arith, size_empty L size))
 
   other_items : (size i : ℕ) → 0 < i → item_at (leaf_block size x) i ≡ None
-  other_items size i some = item-elsewhere (empty_block size) 0 (Some (Leaf x)) i (omega arith) ∙ item-empty L size i
+  other_items size i some = item_elsewhere (empty_block size) 0 (Some (Leaf x)) i (omega arith) ∙ item_empty L size i
 
   size_kept : (size : ℕ) → size_of (leaf_block size x) ≡ size
-  size_kept size = size-with_item (empty_block size) 0 (Some (Leaf x)) ∙ size-empty L size
+  size_kept size = size_with_item (empty_block size) 0 (Some (Leaf x)) ∙ size_empty L size
 
 behind_first : (i : ℕ) → (i < 0) ⊎ (0 + 1 ≤ i) → 0 < i
 behind_first i beside = omega arith

@@ -1,8 +1,6 @@
 //! Reads a script from standard input, and answers each line on standard output.
 #![tactic(auto)]
 
-#[cfg(test)]
-mod block_callers;
 mod fault;
 mod standard;
 #[cfg(test)]

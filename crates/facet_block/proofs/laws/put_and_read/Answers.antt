@@ -1,6 +1,6 @@
 use Rattle.std.proofs.Common.{arith}
-use Rattle.facet_block.proofs.Steps.{with_item-back}
+use Rattle.facet_block.proofs.Steps.{with_item_back}
 use Rattle.facet_block.proofs.laws.put_and_read.Goals as goal
 
 pub returns-clause-same : goal.returns-clause-same
-returns-clause-same g c = grind (arith, with_item-back)
+returns-clause-same g c = grind (arith, with_item_back)

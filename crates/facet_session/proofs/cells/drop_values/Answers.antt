@@ -1,6 +1,6 @@
 use Rattle.std.proofs.Common.{◌<◌, ◌∙◌, length, arith, length-set}
 use Rattle.facet_session.specs.Stored.{IsFilled}
-use Rattle.facet_block.proofs.Elements.{All-at, some_there}
+use Rattle.facet_base.proofs.Lists.{All_at, some_there}
 use Rattle.facet_session.proofs.Dropping.{same_at, same_behind, next_stored}
 use Rattle.facet_session.proofs.cells.drop_values.Goals as goal
 use Rattle.facet_session.proofs.cells.drop_values.Goals.{in-Some, in_default}
@@ -9,7 +9,7 @@ pub drop_value-requires-clause-filled : goal.drop_value-requires-clause-filled
 drop_value-requires-clause-filled g c =
     let cells = c.args.cells.now.items in
     let here = same_at c.loop-i.cells.items cells c.loop-i.i c.in-Some.cell.now c.loop-i.invariant.rest c.in-Some.ensures.value in
-    All-at (IsFilled c.args.shapes.now) cells c.loop-i.i c.in-Some.cell.now c.requires.filled here
+    All_at (IsFilled c.args.shapes.now) cells c.loop-i.i c.in-Some.cell.now c.requires.filled here
 
 pub loop-i-preserved : goal.loop-i-preserved
 loop-i-preserved g c =

@@ -1,6 +1,6 @@
 use Rattle.std.proofs.Common.{◌+◌, ◌<◌, ◌∙◌, ap, arith}
 use Rattle.facet_block.specs.Block.{size_of, with_item}
-use Rattle.facet_block.proofs.Moves.{moved_out-more, moved_in-more}
+use Rattle.facet_block.proofs.Moves.{moved_out_more, moved_in_more}
 use Rattle.facet_block.proofs.block.Block.move_items.Goals as goal
 
 pub loop-i-preserved : goal.loop-i-preserved
@@ -12,8 +12,8 @@ loop-i-preserved g c =
     record {
       items = c.exchange.ensures.block
           ∙ (ap (λ item. with_item c.loop-i.self (c.args.at + i) item) c.exchange-item.ensures.gives
-          ∙ moved_in-more c.loop-i.self c.args.self.now c.args.source.now c.loop-i.source c.args.at c.args.from i done.items done.source there here);
-      source = c.exchange-item.ensures.block ∙ moved_out-more c.loop-i.source c.args.source.now c.args.from i done.source here;
+          ∙ moved_in_more c.loop-i.self c.args.self.now c.args.source.now c.loop-i.source c.args.at c.args.from i done.items done.source there here);
+      source = c.exchange-item.ensures.block ∙ moved_out_more c.loop-i.source c.args.source.now c.args.from i done.source here;
       fits = done.fits;
       source_fits = done.source_fits;
     }

@@ -1,5 +1,5 @@
 use Rattle.std.proofs.Common.{◌≡◌, ◌<◌, ◌≤◌, List, subst, sym, length, take, swap, arith, length-take}
-use Rattle.facet_block.proofs.Parts.{take-swap, drop-swap}
+use Rattle.facet_block.proofs.Parts.{take_swap, drop_swap}
 use Rattle.facet_block.proofs.split.Split.swap_front.Goals as goal
 
 pub returns : goal.returns
@@ -14,4 +14,4 @@ returns g c =
     let first : i < n = omega (arith, in_front.0, length-take n xs) in
     let second : j < n = omega (arith, in_front.1, length-take n xs) in
     let same : c.swap.new.self.items ≡ swap xs i j = c.swap.ensures.items in
-    rw (← c.self.view_is, same) (λ k. (take-swap n xs i j inside first second k, drop-swap n xs i j inside first second k))
+    rw (← c.self.view_is, same) (λ k. (take_swap n xs i j inside first second k, drop_swap n xs i j inside first second k))

@@ -1,4 +1,4 @@
--- What is left of a block whose tags were exchanged, as callers of the pointers say it.
+-- Blocks and sequences in which tags were exchanged.
 use Rattle.std.specs.Prelude.{◌≡◌, ℕ, zero, suc, All, map, Option, Some}
 use Rattle.facet_block.specs.declared.block.Block.{Block}
 use Rattle.facet_block.specs.declared.block.Item.{Item, Tag, Sequence}
