@@ -74,7 +74,7 @@ pub fn fill_and_read<L: Drop + Copy>(block: &mut Block<L>, at: usize, leaf: L, t
 }
 
 /// Fills both, and takes both out again: the block is as it was.
-#[tactic(auto, using(facet_block::proofs::Steps::with_item_back))]
+#[tactic(auto, using(facet_block::proofs::Steps::with_item_back, facet_block::proofs::Ranges::item_elsewhere))]
 pub fn fill_and_take<L: Drop>(block: &mut Block<L>, at: usize, leaf: L, tag: u32) -> (L, u32)
     requires below { at + 4 < size_of block.old }
     requires empty { item_at block.old at ≡ None }

@@ -1,10 +1,10 @@
 //! Proofs that the contracts of `facet_block` suffice for callers in another crate, and examples of their use. Each
-//! function says exactly what the blocks are that it leaves, and no proof here looks behind a public contract.
+//! function says exactly what the blocks are that it leaves, and the proofs use the public contracts and lemmas alone.
 #![tactic(auto)]
 
 mod fields;
 mod pointers;
-mod retag;
+mod tags;
 #[cfg(test)]
 mod tests;
 
@@ -16,4 +16,4 @@ pub use pointers::{
     is_slot_empty, move_range, put_and_get, put_further, retag_by_borrows, size_behind,
     take_further,
 };
-pub use retag::{retag, retag_below, retag_deep, retag_each};
+pub use tags::{retag, retag_below, retag_deep, retag_each};

@@ -50,7 +50,6 @@ pub fn retag_by_borrows<L: Drop>(block: &mut Block<L>, at: usize, tag: u32)
     requires { item_kind_at block.old at ≡ ItemKind.Tag }
     ensures { block.new ≡ with_item block.old at (Some (Tag tag)) }
 {
-    let _kind = block.item_at(at);
     let mut place = PtrMut::new(block, at);
     place.reborrow().take_tag();
     place.as_uninit().put_tag(tag);

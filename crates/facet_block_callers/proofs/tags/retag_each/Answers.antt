@@ -4,8 +4,8 @@ use Rattle.facet_block.specs.declared.block.ItemKind.TheVariants as kind
 use Rattle.facet_base.proofs.Lists.{All_at}
 use Rattle.facet_block.proofs.Sequences.{changed_blocks, changed_blocks_0, next_block, changed_blocks_more, block_there, changed_blocks_all}
 use Rattle.facet_block_callers.specs.Retagged.{with_tag}
-use Rattle.facet_block_callers.proofs.retag.retag_each.Goals as goal
-use Rattle.facet_block_callers.proofs.retag.retag_each.Goals.{in-Some, in_default}
+use Rattle.facet_block_callers.proofs.tags.retag_each.Goals as goal
+use Rattle.facet_block_callers.proofs.tags.retag_each.Goals.{in-Some, in_default}
 
 pub loop-i-init : goal.loop-i-init
 loop-i-init g c = sym (changed_blocks_0 (with_tag c.args.at c.args.tag) c.args.sequence.now)

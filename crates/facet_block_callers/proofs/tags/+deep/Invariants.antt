@@ -1,7 +1,7 @@
 use Rattle.std.proofs.Common.{◌≡◌, ◌*◌, ◌+◌}
 use Rattle.facet_block.proofs.Sequences.{changed_blocks}
 use Rattle.facet_block_callers.specs.Retagged.{retagged}
-use Rattle.facet_block_callers.proofs.retag.+deep.Given as goal
+use Rattle.facet_block_callers.proofs.tags.+deep.Given as goal
 
 abbrev pub decreases-retag_deep : goal.decreases-retag_deep
 decreases-retag_deep g l = 2 * l.levels

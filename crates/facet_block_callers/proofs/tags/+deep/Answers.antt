@@ -1,8 +1,8 @@
 use Rattle.std.proofs.Common.{◌∙◌, sym, arith}
 use Rattle.facet_block.proofs.Sequences.{changed_blocks_0, changed_blocks_more, block_there}
 use Rattle.facet_block_callers.specs.Retagged.{retagged}
-use Rattle.facet_block_callers.proofs.retag.+deep.Goals as goal
-use Rattle.facet_block_callers.proofs.retag.+deep.Goals.{retag_deep_each-in-Some, retag_deep_each-in_default}
+use Rattle.facet_block_callers.proofs.tags.+deep.Goals as goal
+use Rattle.facet_block_callers.proofs.tags.+deep.Goals.{retag_deep_each-in-Some, retag_deep_each-in_default}
 
 pub retag_deep_each-loop-i-init : goal.retag_deep_each-loop-i-init
 retag_deep_each-loop-i-init g t c = sym (changed_blocks_0 (retagged c.args.levels c.args.tag) c.args.sequence.now)
