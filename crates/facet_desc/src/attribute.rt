@@ -125,6 +125,7 @@ fn has_name(attribute: &Attr, ns: Option<&str>, key: &str) -> bool
     ns == namespace(attribute) && key == attribute.key.as_str()
 }
 
+// Its namespace, and none for a builtin one.
 fn namespace(attribute: &Attr) -> Option<&str>
     ensures { option_copied result ≡ attribute.now.ns }
 {

@@ -32,6 +32,7 @@ impl EnumType {
     }
 }
 
+// The first variant of that name, where the enum's values are borrowed or owned.
 fn find_cow_variant<'a>(enum_type: &'a EnumType, name: &str) -> Option<&'a Variant>
     ensures { option_copied result ≡ cow_variant name.now enum_type.now }
 {
@@ -42,6 +43,7 @@ fn find_cow_variant<'a>(enum_type: &'a EnumType, name: &str) -> Option<&'a Varia
     }
 }
 
+// The first variant of that name.
 fn find_variant<'a>(variants: &'a [Variant], name: &str) -> Option<&'a Variant>
     ensures { option_copied result ≡ variant_named name.now variants.now }
 {
@@ -65,7 +67,7 @@ impl Model for EnumTypeBuilder {
 }
 
 impl EnumTypeBuilder {
-    /// The enum of this number and these variants, by C's rules, that isn't one of borrowed or owned.
+    /// The enum of this discriminant type and these variants, in C's representation, whose values aren't borrowed or owned.
     pub fn new(enum_repr: EnumRepr, variants: Many<Variant>) -> EnumTypeBuilder
         ensures { result ≡ record { repr = Repr.C; enum_repr = enum_repr; variants = variants; is_cow = false } }
     {
@@ -79,7 +81,7 @@ impl EnumTypeBuilder {
         }
     }
 
-    /// Sets the rules by which it lies in memory.
+    /// Sets its representation.
     pub fn repr(mut self, value: Repr) -> Self
         ensures { result ≡ record self { repr = value } }
     {

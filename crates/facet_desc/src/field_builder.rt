@@ -64,7 +64,7 @@ impl FieldBuilder {
         self
     }
 
-    /// Sets another name that it is read by.
+    /// Sets its alias.
     pub fn alias(mut self, value: Text) -> Self
         ensures { result ≡ record self { alias = Some value } }
     {
@@ -104,7 +104,7 @@ impl FieldBuilder {
         self
     }
 
-    /// Sets the hook that holds of its values.
+    /// Sets the hook that checks its invariants.
     pub fn invariants(mut self, value: HookId) -> Self
         ensures { result ≡ record self { invariants = Some value } }
     {

@@ -30,12 +30,21 @@ impl FunctionPointerDef {
 }
 
 /// How a function is called.
-#[derive(Clone, Copy, PartialEq, Eq, Hash, Debug, Default)]
+#[derive(Clone, Copy, PartialEq, Eq, Hash, Debug)]
 pub enum FunctionAbi {
     C,
-    #[default]
     Rust,
     Unknown,
+}
+
+impl Default for FunctionAbi {
+    ghost use Rattle.facet_desc.specs.declared.function.FunctionAbi.TheVariants as abi;
+
+    ghost is_default = { λ a. a ≡ abi.Rust };
+
+    fn default() -> FunctionAbi {
+        FunctionAbi::Rust
+    }
 }
 
 impl FunctionAbi {

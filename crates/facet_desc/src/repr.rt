@@ -4,36 +4,45 @@ ghost use Rattle.facet_desc.specs.Layouts.{unsigned_repr};
 
 use facet_base::BadSize;
 
-/// By which rules a struct or an enum lies in memory.
+/// The representation of a struct or an enum in memory.
 #[derive(Clone, Copy, PartialEq, Eq, Hash, Debug)]
 pub struct Repr {
     pub base: BaseRepr,
     pub packed: bool,
 }
 
-/// Whether fields lie where C or Rust puts them, or the type lies as its only field with a size does.
-#[derive(Clone, Copy, PartialEq, Eq, Hash, Debug, Default)]
+/// Whose layout a type has: the one that C or Rust chooses, or that of its only field with a size.
+#[derive(Clone, Copy, PartialEq, Eq, Hash, Debug)]
 pub enum BaseRepr {
     C,
-    #[default]
     Rust,
     Transparent,
 }
 
+impl Default for BaseRepr {
+    ghost use Rattle.facet_desc.specs.declared.repr.BaseRepr.TheVariants as base;
+
+    ghost is_default = { λ b. b ≡ base.Rust };
+
+    fn default() -> BaseRepr {
+        BaseRepr::Rust
+    }
+}
+
 impl Repr {
-    /// C's rules, not packed.
+    /// C's representation, not packed.
     pub const C: Repr = Repr {
         base: BaseRepr::C,
         packed: false,
     };
 
-    /// As the only field with a size lies, not packed.
+    /// That of the only field with a size, not packed.
     pub const TRANSPARENT: Repr = Repr {
         base: BaseRepr::Transparent,
         packed: false,
     };
 
-    /// Rust's rules, not packed.
+    /// Rust's representation, not packed.
     pub const RUST: Repr = Repr {
         base: BaseRepr::Rust,
         packed: false,
@@ -67,7 +76,7 @@ impl Default for Repr {
 }
 
 /// How an enum stores which of its variants a value is: as Rust chooses, by values that a pointer can't have
-/// (`RustNPO`), or as a number of this type.
+/// (`RustNPO`), or as a discriminant of this type.
 #[derive(Clone, Copy, PartialEq, Eq, Hash, Debug)]
 pub enum EnumRepr {
     Rust,
@@ -85,7 +94,7 @@ pub enum EnumRepr {
 }
 
 impl EnumRepr {
-    /// The unsigned number of that many bytes, which must be 1, 2, 4 or 8.
+    /// The unsigned discriminant of that many bytes, which are 1, 2, 4 or 8; any other size is refused.
     pub fn from_discriminant_size(size: usize) -> Result<EnumRepr, BadSize>
         ensures { result_ok result ≡ unsigned_repr size }
     {

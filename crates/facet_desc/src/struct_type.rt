@@ -54,7 +54,7 @@ impl Model for StructTypeBuilder {
 }
 
 impl StructTypeBuilder {
-    /// The struct of this kind and these fields, by C's rules.
+    /// The struct of this kind and these fields, in C's representation.
     pub fn new(kind: StructKind, fields: Many<Field>) -> StructTypeBuilder
         ensures { result ≡ record { repr = Repr.C; kind = kind; fields = fields } }
     {
@@ -67,7 +67,7 @@ impl StructTypeBuilder {
         }
     }
 
-    /// Sets the rules by which it lies in memory.
+    /// Sets its representation.
     pub fn repr(mut self, value: Repr) -> Self
         ensures { result ≡ record self { repr = value } }
     {

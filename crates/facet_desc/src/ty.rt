@@ -42,7 +42,7 @@ impl Ty {
         }
     }
 
-    /// Begins the type of a struct of this kind and these fields, by C's rules.
+    /// Begins the type of a struct of this kind and these fields, in C's representation.
     pub fn struct_builder(kind: StructKind, fields: Many<Field>) -> TypeStructBuilder
         ensures { result ≡ record { repr = Repr.C; kind = kind; fields = fields } }
     {
@@ -51,7 +51,7 @@ impl Ty {
         }
     }
 
-    /// Begins the type of an enum of this number and these variants, by C's rules.
+    /// Begins the type of an enum of this discriminant type and these variants, in C's representation.
     pub fn enum_builder(enum_repr: EnumRepr, variants: Many<Variant>) -> TypeEnumBuilder
         ensures { result ≡ record { repr = Repr.C; enum_repr = enum_repr; variants = variants; is_cow = false } }
     {
@@ -70,7 +70,7 @@ pub enum UserType {
 }
 
 impl UserType {
-    /// The rules by which it lies in memory, and none exactly for an opaque type.
+    /// Its representation, and none exactly for an opaque type.
     pub fn repr(&self) -> Option<Repr>
         ensures { result ≡ user_repr self.now }
     {
@@ -97,7 +97,7 @@ impl Model for TypeStructBuilder {
 }
 
 impl TypeStructBuilder {
-    /// Sets the rules by which it lies in memory.
+    /// Sets its representation.
     pub fn repr(self, value: Repr) -> Self
         ensures { result ≡ record self { repr = value } }
     {
@@ -129,7 +129,7 @@ impl Model for TypeEnumBuilder {
 }
 
 impl TypeEnumBuilder {
-    /// Sets the rules by which it lies in memory.
+    /// Sets its representation.
     pub fn repr(self, value: Repr) -> Self
         ensures { result ≡ record self { repr = value } }
     {

@@ -51,8 +51,8 @@ impl VariantBuilder {
         VariantBuilder::new(alloc, name, StructType::unit(alloc))
     }
 
-    /// The variant of this name with these fields, which are written without their names and lie by Rust's rules,
-    /// and with nothing else set. It takes no memory.
+    /// The variant of this name whose body is a tuple struct of these fields in Rust's representation, with nothing
+    /// else set. It takes no memory.
     pub fn tuple(alloc: Global, name: Text, fields: Many<Field>) -> VariantBuilder
         ensures fresh { variant_without_spare result ≡ fresh_variant name (struct_without_spare result.body) }
         ensures body { result.body ≡ record { repr = Repr.RUST; kind = StructKind.TupleStruct; fields = fields } }
@@ -73,7 +73,7 @@ impl VariantBuilder {
         self
     }
 
-    /// Sets its number.
+    /// Sets its discriminant.
     pub fn discriminant(mut self, value: i64) -> Self
         ensures { result ≡ record self { discriminant = Some value } }
     {

@@ -16,39 +16,51 @@ fn variant_with(alloc: Global, name: Text, attributes: Many<Attr>) -> Variant {
         .build()
 }
 
-// Each test of a field by its attributes, and what it answers of a field that has one attribute.
-fn field_tests(
-    alloc: Global,
-    ns: Option<&str>,
-    key: &str,
-) -> Result<[(&'static str, bool); 9], AllocError> {
+// The tests of a field by its attributes.
+fn field_tests() -> [&'static str; 9] {
+    [
+        "is_text",
+        "is_elements",
+        "is_element",
+        "is_attribute",
+        "is_tag",
+        "is_doctype",
+        "is_other",
+        "is_variant_tag",
+        "is_variant_content",
+    ]
+}
+
+// What they answer, in that order, of a field that has one attribute.
+fn field_answers(alloc: Global, ns: Option<&str>, key: &str) -> Result<[bool; 9], AllocError> {
     let attributes = list_of_one(alloc, attribute(alloc, ns, key, 0)?)?;
     let field = field_with(alloc, Text::new(alloc, "a")?, attributes);
     Ok([
-        ("is_text", field.is_text()),
-        ("is_elements", field.is_elements()),
-        ("is_element", field.is_element()),
-        ("is_attribute", field.is_attribute()),
-        ("is_tag", field.is_tag()),
-        ("is_doctype", field.is_doctype()),
-        ("is_other", field.is_other()),
-        ("is_variant_tag", field.is_variant_tag()),
-        ("is_variant_content", field.is_variant_content()),
+        field.is_text(),
+        field.is_elements(),
+        field.is_element(),
+        field.is_attribute(),
+        field.is_tag(),
+        field.is_doctype(),
+        field.is_other(),
+        field.is_variant_tag(),
+        field.is_variant_content(),
     ])
 }
 
-// Each test of a variant by its attributes, and what it answers of a variant that has one attribute.
-fn variant_tests(
-    alloc: Global,
-    ns: Option<&str>,
-    key: &str,
-) -> Result<[(&'static str, bool); 3], AllocError> {
+// The tests of a variant by its attributes.
+fn variant_tests() -> [&'static str; 3] {
+    ["is_text", "is_custom_element", "is_other"]
+}
+
+// What they answer, in that order, of a variant that has one attribute.
+fn variant_answers(alloc: Global, ns: Option<&str>, key: &str) -> Result<[bool; 3], AllocError> {
     let attributes = list_of_one(alloc, attribute(alloc, ns, key, 0)?)?;
     let variant = variant_with(alloc, Text::new(alloc, "a")?, attributes);
     Ok([
-        ("is_text", variant.is_text()),
-        ("is_custom_element", variant.is_custom_element()),
-        ("is_other", variant.is_other()),
+        variant.is_text(),
+        variant.is_custom_element(),
+        variant.is_other(),
     ])
 }
 
@@ -85,13 +97,15 @@ fn rows() -> [(
 #[test]
 fn fields_and_variants_are_classed_by_their_attribute(rt: HostRuntime) -> Result<(), Fail> {
     for (ns, key, first, second) in rows() {
-        for (name, answer) in field_tests(rt.alloc(), ns, key)? {
-            let expected = name == first || name == second;
-            assert_eq!(rt; answer, expected, "{name} of a field with {ns:?} {key}");
+        let answers = field_answers(rt.alloc(), ns, key)?;
+        for (test, answer) in field_tests().into_iter().zip(answers) {
+            let expected = test == first || test == second;
+            assert_eq!(rt; answer, expected, "{test} of a field with {ns:?} {key}");
         }
-        for (name, answer) in variant_tests(rt.alloc(), ns, key)? {
-            let expected = name == first;
-            assert_eq!(rt; answer, expected, "{name} of a variant with {ns:?} {key}");
+        let answers = variant_answers(rt.alloc(), ns, key)?;
+        for (test, answer) in variant_tests().into_iter().zip(answers) {
+            let expected = test == first;
+            assert_eq!(rt; answer, expected, "{test} of a variant with {ns:?} {key}");
         }
     }
     Ok(())
@@ -113,59 +127,47 @@ fn number_in(found: Option<&Attr>) -> Option<i128> {
     }
 }
 
-// What a field and a variant find among the three attributes, and whether they find one.
-fn found(
+// What a field finds among the three attributes, and whether it finds one: by namespace and key, and builtin by key.
+fn found_in_field(
     alloc: Global,
     ns: Option<&str>,
     key: &str,
 ) -> Result<[(Option<i128>, bool); 2], AllocError> {
-    let (name, attributes) = (Text::new(alloc, "a")?, three_attributes(alloc)?);
-    let field = field_with(alloc, name, attributes);
-    let in_field = (number_in(field.get_attr(ns, key)), field.has_attr(ns, key));
-    let (name, attributes) = (Text::new(alloc, "a")?, three_attributes(alloc)?);
-    let variant = variant_with(alloc, name, attributes);
-    let in_variant = (
+    let name = Text::new(alloc, "a")?;
+    let field = field_with(alloc, name, three_attributes(alloc)?);
+    let named = (number_in(field.get_attr(ns, key)), field.has_attr(ns, key));
+    let number = number_in(field.get_builtin_attr(key));
+    Ok([named, (number, field.has_builtin_attr(key))])
+}
+
+// The same of a variant.
+fn found_in_variant(
+    alloc: Global,
+    ns: Option<&str>,
+    key: &str,
+) -> Result<[(Option<i128>, bool); 2], AllocError> {
+    let name = Text::new(alloc, "a")?;
+    let variant = variant_with(alloc, name, three_attributes(alloc)?);
+    let named = (
         number_in(variant.get_attr(ns, key)),
         variant.has_attr(ns, key),
     );
-    Ok([in_field, in_variant])
-}
-
-// The same among the builtin ones.
-fn found_builtin(alloc: Global, key: &str) -> Result<[(Option<i128>, bool); 2], AllocError> {
-    let (name, attributes) = (Text::new(alloc, "a")?, three_attributes(alloc)?);
-    let field = field_with(alloc, name, attributes);
-    let in_field = (
-        number_in(field.get_builtin_attr(key)),
-        field.has_builtin_attr(key),
-    );
-    let (name, attributes) = (Text::new(alloc, "a")?, three_attributes(alloc)?);
-    let variant = variant_with(alloc, name, attributes);
-    let in_variant = (
-        number_in(variant.get_builtin_attr(key)),
-        variant.has_builtin_attr(key),
-    );
-    Ok([in_field, in_variant])
+    let number = number_in(variant.get_builtin_attr(key));
+    Ok([named, (number, variant.has_builtin_attr(key))])
 }
 
 #[test]
 fn the_first_attribute_of_a_namespace_and_key_is_found(rt: HostRuntime) -> Result<(), Fail> {
-    for (ns, key, expected) in [
-        (None, "a", Some(2)),
-        (Some("xml"), "a", Some(1)),
-        (Some("html"), "a", None),
-        (None, "b", None),
+    for (ns, key, named, builtin) in [
+        (None, "a", Some(2), Some(2)),
+        (Some("xml"), "a", Some(1), Some(2)),
+        (Some("html"), "a", None, Some(2)),
+        (None, "b", None, None),
     ] {
-        let answers = found(rt.alloc(), ns, key)?;
-        assert_eq!(rt;
-            answers,
-            [(expected, expected.is_some()); 2],
-            "{ns:?} {key}"
-        );
-    }
-    for (key, expected) in [("a", Some(2)), ("b", None)] {
-        let answers = found_builtin(rt.alloc(), key)?;
-        assert_eq!(rt; answers, [(expected, expected.is_some()); 2], "{key}");
+        let expected = [(named, named.is_some()), (builtin, builtin.is_some())];
+        let in_field = found_in_field(rt.alloc(), ns, key)?;
+        let in_variant = found_in_variant(rt.alloc(), ns, key)?;
+        assert_eq!(rt; [in_field, in_variant], [expected; 2], "{ns:?} {key}");
     }
     Ok(())
 }

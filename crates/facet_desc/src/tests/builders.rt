@@ -7,14 +7,14 @@ use facet_base::{FieldFlags, Flags, HookId, Many, ShapeId, Text};
 use std::alloc::{AllocError, Global};
 use std::test::Fail;
 
-// Whether it has a new name, an alias, attributes, a description, metadata, a default value.
+// Whether it has a new name, an alias, attributes, a description, metadata of the kind `span`, a default value.
 fn set_members(field: &Field) -> [bool; 6] {
     [
         field.rename.is_some(),
         field.alias.is_some(),
         field.attributes.len() > 0,
         field.doc.len() > 0,
-        field.is_metadata(),
+        field.is_metadata() && field.metadata_kind() == Some("span"),
         field.has_default(),
     ]
 }
@@ -36,20 +36,21 @@ fn hooks(field: &Field) -> [Option<u32>; 3] {
     ]
 }
 
+// Whether it goes by a name; its shape, offset and flags; the members and the hooks that are set.
+fn summary(field: Field, name: &str) -> (bool, (ShapeId, usize, u16), [bool; 6], [Option<u32>; 3]) {
+    let numbers = (field.shape(), field.offset, field.flags.bits());
+    let is_named = field.effective_name() == name;
+    (is_named, numbers, set_members(&field), hooks(&field))
+}
+
 #[test]
 fn a_field_begins_with_name_shape_and_offset_alone(rt: HostRuntime) -> Result<(), Fail> {
     let alloc = rt.alloc();
     let (name, lazy_name) = (Text::new(alloc, "a")?, Text::new(alloc, "a")?);
-    for field in [
-        FieldBuilder::new(alloc, name, ShapeId(6), 8).build(),
-        FieldBuilder::new_lazy(alloc, lazy_name, ShapeId(6), 8).build(),
-    ] {
-        let place = (field.shape(), field.offset, field.flags.bits());
-        let set = (set_members(&field), hooks(&field));
-        assert_eq!(rt; field.effective_name(), "a");
-        assert_eq!(rt; place, (ShapeId(6), 8, 0));
-        assert_eq!(rt; set, ([false; 6], [None; 3]));
-    }
+    let fresh = summary(FieldBuilder::new(alloc, name, ShapeId(6), 8).build(), "a");
+    let lazy = FieldBuilder::new_lazy(alloc, lazy_name, ShapeId(6), 8).build();
+    let expected = (true, (ShapeId(6), 8, 0), [false; 6], [None; 3]);
+    assert_eq!(rt; [fresh, summary(lazy, "a")], [expected; 2]);
     Ok(())
 }
 
@@ -75,15 +76,15 @@ fn full_field(alloc: Global) -> Result<Field, AllocError> {
 
 #[test]
 fn a_field_has_what_was_set(rt: HostRuntime) -> Result<(), Fail> {
-    let field = full_field(rt.alloc())?;
-    let set = (set_members(&field), hooks(&field));
-    assert_eq!(rt; set, ([true; 6], [Some(2), Some(3), Some(4)]));
-    assert_eq!(rt; field.effective_name(), "b");
-    assert_eq!(rt; field.metadata_kind(), Some("span"));
+    let full = summary(full_field(rt.alloc())?, "b");
+    let numbers = (ShapeId(6), 8, 0);
+    let hooks = [Some(2), Some(3), Some(4)];
+    assert_eq!(rt; full, (true, numbers, [true; 6], hooks));
     let name = Text::new(rt.alloc(), "a")?;
     let builder = FieldBuilder::new(rt.alloc(), name, ShapeId(6), 8);
-    let field = builder.default_from_trait().build();
-    assert_eq!(rt; hooks(&field), [None, None, Some(0)]);
+    let by_type = summary(builder.default_from_trait().build(), "a");
+    let set = [false, false, false, false, false, true];
+    assert_eq!(rt; by_type, (true, numbers, set, [None, None, Some(0)]));
     Ok(())
 }
 
@@ -139,10 +140,6 @@ fn a_field_answers_by_its_flags(rt: HostRuntime) -> Result<(), Fail> {
     Ok(())
 }
 
-fn unit_variant(alloc: Global) -> Result<Variant, AllocError> {
-    Ok(VariantBuilder::unit(alloc, Text::new(alloc, "A")?).build())
-}
-
 // A variant with one field of which every member is set.
 fn tuple_variant(alloc: Global) -> Result<Variant, AllocError> {
     let (name, rename) = (Text::new(alloc, "A")?, Text::new(alloc, "b")?);
@@ -157,40 +154,30 @@ fn tuple_variant(alloc: Global) -> Result<Variant, AllocError> {
     Ok(builder.build())
 }
 
+type Body = (StructKind, Repr, usize);
+
+// Whether it goes by a name; its body's kind, representation and number of fields; its discriminant, and how many
+// attributes and lines of description it has.
+fn variant_summary(variant: Variant, name: &str) -> (bool, Body, (Option<i64>, usize, usize)) {
+    let body = &variant.body;
+    let body = (body.kind, body.repr, body.fields.len());
+    let set = (
+        variant.discriminant,
+        variant.attributes.len(),
+        variant.doc.len(),
+    );
+    (variant.effective_name() == name, body, set)
+}
+
 #[test]
 fn a_variant_has_its_body_and_what_was_set(rt: HostRuntime) -> Result<(), Fail> {
-    for (variant, name, kind, repr, discriminant, count) in [
-        (
-            unit_variant(rt.alloc())?,
-            "A",
-            StructKind::Unit,
-            Repr::C,
-            None,
-            0,
-        ),
-        (
-            tuple_variant(rt.alloc())?,
-            "b",
-            StructKind::TupleStruct,
-            Repr::RUST,
-            Some(-1),
-            1,
-        ),
-    ] {
-        let body = (
-            variant.body.kind,
-            variant.body.repr,
-            variant.body.fields.len(),
-        );
-        let set = (
-            variant.discriminant,
-            variant.attributes.len(),
-            variant.doc.len(),
-        );
-        assert_eq!(rt; variant.effective_name(), name);
-        assert_eq!(rt; body, (kind, repr, count));
-        assert_eq!(rt; set, (discriminant, count, count));
-    }
+    let name = Text::new(rt.alloc(), "A")?;
+    let unit = variant_summary(VariantBuilder::unit(rt.alloc(), name).build(), "A");
+    let body = (StructKind::Unit, Repr::C, 0);
+    assert_eq!(rt; unit, (true, body, (None, 0, 0)));
+    let tuple = variant_summary(tuple_variant(rt.alloc())?, "b");
+    let body = (StructKind::TupleStruct, Repr::RUST, 1);
+    assert_eq!(rt; tuple, (true, body, (Some(-1), 1, 1)));
     Ok(())
 }
 
