@@ -20,7 +20,7 @@ pub fn fill_two<L: Drop>(block: &mut Block<L>, at: usize, leaf: L, tag: u32)
     place.put_tag_at(4, tag);
 }
 
-/// Fills both through a pointer that the caller lends.
+/// Fills both through a borrowed pointer.
 pub fn fill_two_borrowed<L: Drop>(place: &mut PtrMut<'_, L>, leaf: L, tag: u32)
     requires below { place.old.offset + 4 < size_of place.old.block.now }
     requires empty { item_at place.old.block.now place.old.offset ≡ None }
