@@ -1,18 +1,24 @@
--- The truth value, the character and the signed number that `parse` reads are those that the definitions say.
-use Rattle.std.proofs.Common.{◌≡◌, ◌≢◌, ℕ, ℤ, Bool, true, false, List, [], ◌∷◌, None, Some, option_map, Result, Ok, Err, refl, sym, ap, ◌∙◌, subst, append-nil}
-use Rattle.std.proofs.lemmas.Bool.{false_from_ne_true, and_parts}
+-- The truth value, the character and the number that `parse` reads are those that the definitions say.
+use Rattle.std.proofs.Common.{◌≡◌, ◌≢◌, ℕ, ℤ, zero, suc, pos, negsuc, neg_ℤ, ◌+◌, ◌^◌, ◌<◌, ◌≤◌, ◌&&◌, arith, cond, get_or, nat_eq, nat_lt, not, option_and_then, Bool, true, false, List, [], ◌∷◌, None, Some, option_map, Result, Ok, Err, refl, sym, ap, ◌∙◌, subst, append-nil}
+use Rattle.std.proofs.lemmas.Bool.{false_from_ne_true, and_parts, ltb-true}
 use Rattle.std.specs.Char.{IsScalar, encode_utf8}
-use Rattle.std.proofs.lemmas.Int.{to_z-of_z}
-use mir.Syntax.{Width}
-use mir.Val.{hbits, of_z, to_z, SFits}
 use Rattle.std.proofs.lemmas.Slice.Eq.{bytes_eq-Decides}
 use Rattle.std.proofs.lemmas.Str.{chars-nil, chars_past_char, encodes-chars, scalars-chars}
 use Rattle.std.specs.Result.{result_ok}
 use Rattle.std.specs.Str.{bytes_eq, chars, IsUtf8, encode_utf8_all, all_scalars}
-use Rattle.std.specs.Str.Parse.{ParsesSigned, ParsesBool, ParsesChar, true_text, false_text}
-use Rattle.facet_base.specs.Numeral.{signed_in}
-use Rattle.facet_base.proofs.Numerals.{signed_parsed}
-use Rattle.facet_leaf.specs.ScalarTexts.{truth_of, only}
+use Rattle.std.specs.Str.Parse.{ParsesSigned, ParsesUnsigned, ParsesBool, ParsesChar, true_text, false_text}
+use Rattle.std.specs.Int.{w128}
+use Rattle.std.proofs.lemmas.Int.{to_z-of_z}
+use mir.Val.{of_z, to_z, SFits}
+use Rattle.std.proofs.lemmas.Bool.Decides.{nat_tests}
+use Rattle.facet_base.specs.Numeral.{are_digits, number_after, signed_in, unsigned_below, without_plus}
+use Rattle.facet_base.specs.declared.scalar_type.ScalarType.{ScalarType}
+use Rattle.facet_base.specs.declared.scalar_type.ScalarType.TheVariants as kind
+use Rattle.facet_base.proofs.Numerals.{signed_parsed, unsigned_parsed}
+use Rattle.facet_leaf.specs.declared.scalar.Scalar.{Scalar}
+use Rattle.facet_leaf.specs.declared.scalar.Scalar.TheVariants as scalar
+use Rattle.facet_leaf.specs.Scalar.{has_negative, signed_of, whole_of}
+use Rattle.facet_leaf.specs.ScalarTexts.{has_minus, only, scalar_parsed, truth_of, whole_parsed}
 
 unequal : (xs ys : List ℕ) → (xs ≢ ys) → bytes_eq xs ys ≡ false
 unequal xs ys h = false_from_ne_true (bytes_eq xs ys) (λ e. h ((bytes_eq-Decides xs ys).0 e))
@@ -35,8 +41,121 @@ pub character-parsed : {E : Type 0} (text : List ℕ) (r : Result ℕ E) → IsU
 character-parsed text (Ok c) u h = sym (ap only (chars_past_char text [] c u (h ∙ sym (append-nil (encode_utf8 c))) ∙ ap (λ cs. c ∷ cs) chars-nil))
 character-parsed text (Err e) u h = not_alone text u h (chars text) refl
 
--- a signed number that is stored in its width
-pub signed-stored : {E : Type 0} (w : Width) (text : List ℕ) (x : ℤ) (r : Result ℤ E) → Some x ≡ result_ok r → ParsesSigned w 10 text r → Some (to_z w (of_z w x)) ≡ signed_in (hbits w) text
-signed-stored {E} w text x (Ok y) e h =
-    ap (option_map (λ z. to_z w (of_z w z))) e ∙ ap Some (to_z-of_z w y (subst (SFits w) (sym h.1) h.0.1)) ∙ signed_parsed {E = E} w text (Ok y) h
-signed-stored w text x (Err f) e h = cc
+-- a number from a limit on
+beyond : {A : Type 0} (f : A → Scalar) (x : A) (limit n : ℕ) → limit ≤ n → option_map f (cond (nat_lt n limit) (Some x) None) ≡ None
+beyond f x limit n h = let above : nat_lt n limit ≡ false = grind (arith, nat_tests) in rw above refl
+
+-- no kind has a number from 2 ^ 128 on
+too_great : (k : ScalarType) (n : ℕ) → 2 ^ 128 ≤ n → whole_of k (pos n) ≡ None
+too_great kind.U8 n h = beyond scalar.U8 n (2 ^ 8) n (omega arith)
+too_great kind.U16 n h = beyond scalar.U16 n (2 ^ 16) n (omega arith)
+too_great kind.U32 n h = beyond scalar.U32 n (2 ^ 32) n (omega arith)
+too_great kind.U64 n h = beyond scalar.U64 n (2 ^ 64) n (omega arith)
+too_great kind.U128 n h = beyond scalar.U128 n (2 ^ 128) n (omega arith)
+too_great kind.USize n h = beyond scalar.USize n (2 ^ 64) n (omega arith)
+too_great kind.I8 n h = beyond scalar.I8 (pos n) (2 ^ 7) n (omega arith)
+too_great kind.I16 n h = beyond scalar.I16 (pos n) (2 ^ 15) n (omega arith)
+too_great kind.I32 n h = beyond scalar.I32 (pos n) (2 ^ 31) n (omega arith)
+too_great kind.I64 n h = beyond scalar.I64 (pos n) (2 ^ 63) n (omega arith)
+too_great kind.I128 n h = beyond scalar.I128 (pos n) (2 ^ 127) n (omega arith)
+too_great kind.ISize n h = beyond scalar.ISize (pos n) (2 ^ 63) n (omega arith)
+too_great k n h = refl
+
+-- no kind has a number below -2 ^ 127
+too_small : (k : ScalarType) (n : ℕ) → 2 ^ 127 ≤ n → whole_of k (negsuc n) ≡ None
+too_small kind.I8 n h = beyond scalar.I8 (negsuc n) (2 ^ 7) n (omega arith)
+too_small kind.I16 n h = beyond scalar.I16 (negsuc n) (2 ^ 15) n (omega arith)
+too_small kind.I32 n h = beyond scalar.I32 (negsuc n) (2 ^ 31) n (omega arith)
+too_small kind.I64 n h = beyond scalar.I64 (negsuc n) (2 ^ 63) n (omega arith)
+too_small kind.I128 n h = beyond scalar.I128 (negsuc n) (2 ^ 127) n (omega arith)
+too_small kind.ISize n h = beyond scalar.ISize (negsuc n) (2 ^ 63) n (omega arith)
+too_small k n h = refl
+
+-- the same of a number behind a minus
+too_small_written : (k : ScalarType) (n : ℕ) → 2 ^ 127 + 1 ≤ n → whole_of k (neg_ℤ (pos n)) ≡ None
+too_small_written k zero h = absurd (omega arith)
+too_small_written k (suc n) h = too_small k n (omega arith)
+
+-- digits below 2 ^ 128 write each number that a kind has
+limited : (k : ScalarType) (n : ℕ) (digits small : Bool) → nat_lt n (2 ^ 128) ≡ small
+    → option_and_then (λ m. whole_of k (pos m)) (cond (digits && small) (Some n) None) ≡ option_and_then (whole_of k) (option_map pos (cond digits (Some n) None))
+limited k n false small h = refl
+limited k n true true h = refl
+limited k n true false h = sym (too_great k n (grind (arith, nat_tests)))
+
+-- digits up to 2 ^ 127 write behind a minus each number that a kind has
+limited_below : (k : ScalarType) (n : ℕ) (digits small signed : Bool) → nat_lt n (2 ^ 127 + 1) ≡ small
+    → option_and_then (λ z. cond signed (whole_of k z) None) (option_map (λ m. neg_ℤ (pos m)) (cond (digits && small) (Some n) None)) ≡ cond (not signed) None (option_and_then (whole_of k) (option_map (λ m. neg_ℤ (pos m)) (cond digits (Some n) None)))
+limited_below k n false small true h = refl
+limited_below k n false small false h = refl
+limited_below k n true true true h = refl
+limited_below k n true true false h = refl
+limited_below k n true false true h = sym (too_small_written k n (grind (arith, nat_tests)))
+limited_below k n true false false h = refl
+
+without : (k : ScalarType) (text : List ℕ) → has_minus text ≡ false → option_and_then (λ n. whole_of k (pos n)) (unsigned_below (2 ^ 128) text) ≡ whole_parsed k text
+without k [] h = refl
+without k (b ∷ text) h =
+    let digits = without_plus (b ∷ text) in
+    let same = limited k (number_after 0 digits) (are_digits digits) (nat_lt (number_after 0 digits) (2 ^ 128)) refl in
+    rw h same
+
+behind : (k : ScalarType) (text : List ℕ) → has_minus text ≡ true → option_and_then (λ z. cond (has_negative k) (whole_of k z) None) (signed_in 127 text) ≡ whole_parsed k text
+behind k [] h = cc
+behind k (b ∷ text) h =
+    let same = limited_below k (number_after 0 text) (are_digits text) (nat_lt (number_after 0 text) (2 ^ 127 + 1)) (has_negative k) refl in
+    rw h same
+
+-- the number that a text without a minus is read as
+pub unsigned_read : {E : Type 0} (k : ScalarType) (text : List ℕ) (r : Result ℕ E) → has_minus text ≡ false → ParsesUnsigned 128 10 text r
+    → option_and_then (λ n. whole_of k (pos n)) (result_ok r) ≡ whole_parsed k text
+unsigned_read k text r h p = ap (option_and_then (λ n. whole_of k (pos n))) (unsigned_parsed 128 text r p) ∙ without k text h
+
+-- the number that a text with a minus is read as
+pub signed_read : {E : Type 0} (k : ScalarType) (text : List ℕ) (r : Result ℤ E) → has_minus text ≡ true → ParsesSigned w128 10 text r
+    → option_and_then (λ z. cond (has_negative k) (whole_of k z) None) (result_ok r) ≡ whole_parsed k text
+signed_read k text r h p = ap (option_and_then (λ z. cond (has_negative k) (whole_of k z) None)) (signed_parsed w128 text r p) ∙ behind k text h
+
+-- the test of the first byte
+pub minus_first : (text : List ℕ) → nat_eq (get_or text 0 0) 45 ≡ has_minus text
+minus_first [] = refl
+minus_first (b ∷ text) = refl
+
+-- numbers below zero are of the kinds that have some
+below_zero : (k : ScalarType) (n : ℕ) → cond (has_negative k) (whole_of k (negsuc n)) None ≡ whole_of k (negsuc n)
+below_zero kind.U8 n = refl
+below_zero k n = refl
+
+-- an i128 that is passed on
+pub passed : {E : Type 0} (text : List ℕ) (x : ℤ) (r : Result ℤ E) → Some x ≡ result_ok r → ParsesSigned w128 10 text r → to_z w128 (of_z w128 x) ≡ x
+passed text x (Ok y) e h = let same : x ≡ y = cc in rw same (to_z-of_z w128 y (subst (SFits w128) (sym h.1) h.0.1))
+passed text x (Err f) e h = cc
+
+complement_tested : (k : ScalarType) (n : ℕ) (z : ℤ) (small : Bool) → nat_lt n (2 ^ 127) ≡ small → Some z ≡ cond small (Some (negsuc n)) None
+    → cond (has_negative k) (whole_of k (to_z w128 (of_z w128 z))) None ≡ whole_of k (negsuc n)
+complement_tested k n z true h e =
+    let same : z ≡ negsuc n = cc in
+    let fits : n < 2 ^ 127 = ltb-true n (2 ^ 127) h in
+    ap (λ y. cond (has_negative k) (whole_of k (to_z w128 (of_z w128 y))) None) same
+    ∙ ap (λ y. cond (has_negative k) (whole_of k y) None) (to_z-of_z w128 (negsuc n) (record { sfits = fits })) ∙ below_zero k n
+complement_tested k n z false h e = cc
+
+refused_tested : (k : ScalarType) (n : ℕ) (small : Bool) → nat_lt n (2 ^ 127) ≡ small → None ≡ cond small (Some (negsuc n)) None → None ≡ whole_of k (negsuc n)
+refused_tested k n true h e = cc
+refused_tested k n false h e = sym (too_small k n (grind (arith, nat_tests)))
+
+-- the number -1 - n of a kind, by way of an i128
+pub complement_passed : (k : ScalarType) (n : ℕ) (z : ℤ) → Some z ≡ signed_of 127 (negsuc n)
+    → cond (has_negative k) (whole_of k (to_z w128 (of_z w128 z))) None ≡ whole_of k (negsuc n)
+complement_passed k n z e = complement_tested k n z (nat_lt n (2 ^ 127)) refl e
+
+pub complement_refused : (k : ScalarType) (n : ℕ) → None ≡ signed_of 127 (negsuc n) → None ≡ whole_of k (negsuc n)
+complement_refused k n e = refused_tested k n (nat_lt n (2 ^ 127)) refl e
+
+-- a kind that is neither Bool, Char nor String is parsed as one of whole numbers
+pub other_parsed : (k : ScalarType) (text : List ℕ) → k ≢ kind.Bool → k ≢ kind.Char → k ≢ kind.String → scalar_parsed k text ≡ whole_parsed k text
+unfolding scalar_parsed
+other_parsed kind.Bool text b c s = absurd (b refl)
+other_parsed kind.Char text b c s = absurd (c refl)
+other_parsed kind.String text b c s = absurd (s refl)
+other_parsed k text b c s = refl

@@ -1,5 +1,5 @@
 -- What the methods of the shipped leaf answer, apart from its texts.
-use Rattle.std.specs.Prelude.{ℕ, ℤ, pos, negsuc, ◌^◌, ◌&&◌, Bool, true, false, not, cond, List, [], ◌∷◌, Option, None, Some, option_map, bytes_eq, if◌then◌else◌, ◌==◌, length, nat_lt}
+use Rattle.std.specs.Prelude.{ℕ, ℤ, pos, negsuc, ◌^◌, ◌&&◌, Bool, true, false, not, cond, List, [], ◌∷◌, Option, None, Some, is_some, option_map, bytes_eq, if◌then◌else◌, ◌==◌, length, nat_lt}
 use Rattle.std.specs.Cmp.Lexicographic.{slice_cmp}
 use Rattle.std.specs.Ordering.{nat_cmp, int_cmp, int_eq, ordering_then}
 use Rattle.std.specs.declared.cmp.Ordering.{Ordering}
@@ -132,26 +132,6 @@ scalar_writes (scalar.I64 x) = of_i64 x ∷ []
 scalar_writes (scalar.I128 x) = of_i128 x ∷ []
 scalar_writes (scalar.ISize x) = of_isize x ∷ []
 
--- false, the character 0, the empty text, and 0
-abbrev pub scalar_default : ScalarType → Option Scalar
-scalar_default kind.Bool = Some (scalar.Bool false)
-scalar_default kind.Char = Some (scalar.Char 0)
-scalar_default kind.String = Some (scalar.String [])
-scalar_default kind.U8 = Some (scalar.U8 0)
-scalar_default kind.U16 = Some (scalar.U16 0)
-scalar_default kind.U32 = Some (scalar.U32 0)
-scalar_default kind.U64 = Some (scalar.U64 0)
-scalar_default kind.U128 = Some (scalar.U128 0)
-scalar_default kind.USize = Some (scalar.USize 0)
-scalar_default kind.I8 = Some (scalar.I8 (pos 0))
-scalar_default kind.I16 = Some (scalar.I16 (pos 0))
-scalar_default kind.I32 = Some (scalar.I32 (pos 0))
-scalar_default kind.I64 = Some (scalar.I64 (pos 0))
-scalar_default kind.I128 = Some (scalar.I128 (pos 0))
-scalar_default kind.ISize = Some (scalar.ISize (pos 0))
-scalar_default kind.Unit = None
-scalar_default kind.Str = None
-
 -- true, not 0, not the character 0, not empty
 abbrev pub scalar_truthy : Scalar → Bool
 scalar_truthy (scalar.String text) = nat_lt 0 (length text)
@@ -182,6 +162,17 @@ whole_of kind.I64 z = option_map scalar.I64 (signed_of 63 z)
 whole_of kind.I128 z = option_map scalar.I128 (signed_of 127 z)
 whole_of kind.ISize z = option_map scalar.ISize (signed_of 63 z)
 whole_of k z = None
+
+-- false, the character 0, the empty text, and 0
+abbrev pub scalar_default : ScalarType → Option Scalar
+scalar_default kind.Bool = Some (scalar.Bool false)
+scalar_default kind.Char = Some (scalar.Char 0)
+scalar_default kind.String = Some (scalar.String [])
+scalar_default k = whole_of k (pos 0)
+
+-- the kinds that have numbers below zero
+abbrev pub has_negative : ScalarType → Bool
+has_negative k = is_some (whole_of k (negsuc 0))
 
 -- the value in the kind, or the scalar that was given
 abbrev pub conversion_of : Scalar → Option Scalar → Conversion Scalar

@@ -1,12 +1,11 @@
 -- What holds of the answers of the shipped leaf.
-use Rattle.std.proofs.Common.{◌≡◌, ◌↔◌, ◌∙◌, refl, sym, ℕ, ℤ, nat_abs, ◌^◌, Bool, true, false, ◌&&◌, cond, nat_eq, ap, List, [], ◌∷◌, Option, None, Some, IfSome, IsSome, option_map, true≢false}
+use Rattle.std.proofs.Common.{◌≡◌, ◌↔◌, ◌∙◌, refl, sym, ℕ, ℤ, pos, nat_abs, Bool, true, false, not, ◌&&◌, cond, nat_eq, ap, List, [], ◌∷◌, Option, None, Some, IfSome, IsSome, option_and_then, option_map, true≢false}
 use Rattle.std.specs.Cmp.{IsEquivalence, IsPartialOrder, IsTotalOrder, Equal-is, and_equiv, both_tied, first_so, int_cmp_total, int_eq_equiv, on_equiv, on_total, po, second_so, signed_Decides, then_total}
 use Rattle.std.specs.Cmp.Lexicographic.{bytes_decides, nat_list_cmp_total, nat_list_eq_equiv, slice_cmp, texts_ties}
 use Rattle.std.specs.Ordering.{is_eq, nat_cmp, int_cmp, int_eq}
 use Rattle.std.specs.declared.cmp.Ordering.TheVariants.{Equal}
 use Rattle.std.specs.Str.{bytes_eq, chars, is_utf8}
 use Rattle.std.proofs.lemmas.Cmp.{nat_eq_equiv}
-use Rattle.facet_base.specs.Numeral.{signed_in, unsigned_below}
 use Rattle.facet_base.specs.declared.characteristic.Characteristic.TheVariants as characteristic
 use Rattle.facet_base.specs.declared.scalar_type.ScalarType.{ScalarType}
 use Rattle.facet_base.specs.declared.scalar_type.ScalarType.TheVariants as kind
@@ -15,9 +14,9 @@ use Rattle.facet_leaf.specs.declared.scalar.Scalar.{Scalar}
 use Rattle.facet_leaf.specs.declared.scalar.Scalar.TheVariants as scalar
 use Rattle.facet_leaf.specs.HashWrite.{HashWrite, bytes, of_u8, of_u16, of_u32, of_u64, of_u128, of_usize, of_i8, of_i16, of_i32, of_i64, of_i128, of_isize}
 use Rattle.facet_leaf.specs.LeafLaws.{IsConversion, IsStored, LeafLaws}
-use Rattle.facet_leaf.specs.Scalar.{bytes_of, conversion_of, is_whole, number_of, place_of_kind, same_value, scalar_can, scalar_converted, scalar_default, scalar_kind, scalar_order, scalar_same, scalar_writes, signed_of, unsigned_of, whole_of}
+use Rattle.facet_leaf.specs.Scalar.{bytes_of, conversion_of, has_negative, is_whole, number_of, place_of_kind, same_value, scalar_can, scalar_converted, scalar_default, scalar_kind, scalar_order, scalar_same, scalar_writes, signed_of, unsigned_of, whole_of}
 use Rattle.facet_leaf.specs.ScalarModel.{scalar_model}
-use Rattle.facet_leaf.specs.ScalarTexts.{only, scalar_parsed, scalar_parsed_bytes, truth_of}
+use Rattle.facet_leaf.specs.ScalarTexts.{has_minus, number_written, only, scalar_parsed, scalar_parsed_bytes, truth_of}
 
 -- a scalar is neither of kind Unit nor of kind Str
 is_stored : (x : Scalar) → IsStored (scalar_kind x)
@@ -120,43 +119,6 @@ chosen : (x : Scalar) (k : ScalarType) → scalar_kind x ≡ k → (b : Bool) �
 chosen x k h true = h
 chosen x k h false = tt
 
--- a scalar that a text is has the kind that was asked for
-parsed_kind : (k : ScalarType) (text : List ℕ) → IfSome (scalar_parsed k text) (λ x. scalar_kind x ≡ k)
-unfolding scalar_parsed
-parsed_kind kind.Bool text = mapped scalar.Bool kind.Bool (λ _. refl) (truth_of text)
-parsed_kind kind.Char text = mapped scalar.Char kind.Char (λ _. refl) (only (chars text))
-parsed_kind kind.String text = refl
-parsed_kind kind.U8 text = mapped scalar.U8 kind.U8 (λ _. refl) (unsigned_below (2 ^ 8) text)
-parsed_kind kind.U16 text = mapped scalar.U16 kind.U16 (λ _. refl) (unsigned_below (2 ^ 16) text)
-parsed_kind kind.U32 text = mapped scalar.U32 kind.U32 (λ _. refl) (unsigned_below (2 ^ 32) text)
-parsed_kind kind.U64 text = mapped scalar.U64 kind.U64 (λ _. refl) (unsigned_below (2 ^ 64) text)
-parsed_kind kind.U128 text = mapped scalar.U128 kind.U128 (λ _. refl) (unsigned_below (2 ^ 128) text)
-parsed_kind kind.USize text = mapped scalar.USize kind.USize (λ _. refl) (unsigned_below (2 ^ 64) text)
-parsed_kind kind.I8 text = mapped scalar.I8 kind.I8 (λ _. refl) (signed_in 7 text)
-parsed_kind kind.I16 text = mapped scalar.I16 kind.I16 (λ _. refl) (signed_in 15 text)
-parsed_kind kind.I32 text = mapped scalar.I32 kind.I32 (λ _. refl) (signed_in 31 text)
-parsed_kind kind.I64 text = mapped scalar.I64 kind.I64 (λ _. refl) (signed_in 63 text)
-parsed_kind kind.I128 text = mapped scalar.I128 kind.I128 (λ _. refl) (signed_in 127 text)
-parsed_kind kind.ISize text = mapped scalar.ISize kind.ISize (λ _. refl) (signed_in 63 text)
-parsed_kind k text = tt
-
--- a scalar that bytes are has the kind that was asked for
-parsed_bytes_kind : (k : ScalarType) (text : List ℕ) → IfSome (scalar_parsed_bytes k text) (λ x. scalar_kind x ≡ k)
-parsed_bytes_kind kind.String text = chosen (scalar.String text) kind.String refl (is_utf8 text)
-parsed_bytes_kind k text = tt
-
--- a default has its kind
-default_kind : (k : ScalarType) → IfSome (scalar_default k) (λ x. scalar_kind x ≡ k)
-default_kind kind.Unit = tt
-default_kind kind.Str = tt
-default_kind k = refl
-
--- each kind that can Default has one
-default_there : (k : ScalarType) → scalar_can k characteristic.Default ≡ true → IsSome (scalar_default k)
-default_there kind.Unit h = absurd (true≢false (sym h))
-default_there kind.Str h = absurd (true≢false (sym h))
-default_there k h = refl
-
 -- a whole number of a kind has that kind
 whole_kind : (k : ScalarType) (z : ℤ) → IfSome (whole_of k z) (λ x. scalar_kind x ≡ k)
 whole_kind kind.U8 z = mapped scalar.U8 kind.U8 (λ _. refl) (unsigned_of 8 z)
@@ -172,6 +134,38 @@ whole_kind kind.I64 z = mapped scalar.I64 kind.I64 (λ _. refl) (signed_of 63 z)
 whole_kind kind.I128 z = mapped scalar.I128 kind.I128 (λ _. refl) (signed_of 127 z)
 whole_kind kind.ISize z = mapped scalar.ISize kind.ISize (λ _. refl) (signed_of 63 z)
 whole_kind k z = tt
+
+-- a whole number that a text is has the kind that was asked for
+whole_parsed_kind : (k : ScalarType) (refused : Bool) (written : Option ℤ) → IfSome (cond refused None (option_and_then (whole_of k) written)) (λ x. scalar_kind x ≡ k)
+whole_parsed_kind k true written = tt
+whole_parsed_kind k false None = tt
+whole_parsed_kind k false (Some z) = whole_kind k z
+
+-- a scalar that a text is has the kind that was asked for
+parsed_kind : (k : ScalarType) (text : List ℕ) → IfSome (scalar_parsed k text) (λ x. scalar_kind x ≡ k)
+unfolding scalar_parsed
+parsed_kind kind.Bool text = mapped scalar.Bool kind.Bool (λ _. refl) (truth_of text)
+parsed_kind kind.Char text = mapped scalar.Char kind.Char (λ _. refl) (only (chars text))
+parsed_kind kind.String text = refl
+parsed_kind k text = whole_parsed_kind k (has_minus text && not (has_negative k)) (number_written text)
+
+-- a scalar that bytes are has the kind that was asked for
+parsed_bytes_kind : (k : ScalarType) (text : List ℕ) → IfSome (scalar_parsed_bytes k text) (λ x. scalar_kind x ≡ k)
+parsed_bytes_kind kind.String text = chosen (scalar.String text) kind.String refl (is_utf8 text)
+parsed_bytes_kind k text = tt
+
+-- a default has its kind
+default_kind : (k : ScalarType) → IfSome (scalar_default k) (λ x. scalar_kind x ≡ k)
+default_kind kind.Bool = refl
+default_kind kind.Char = refl
+default_kind kind.String = refl
+default_kind k = whole_kind k (pos 0)
+
+-- each kind that can Default has one
+default_there : (k : ScalarType) → scalar_can k characteristic.Default ≡ true → IsSome (scalar_default k)
+default_there kind.Unit h = absurd (true≢false (sym h))
+default_there kind.Str h = absurd (true≢false (sym h))
+default_there k h = refl
 
 -- what a scalar becomes is of the kind, or the scalar itself
 converted_to : (k : ScalarType) (x : Scalar) (o : Option Scalar) → IfSome o (λ y. scalar_kind y ≡ k) → IsConversion scalar_model k x (conversion_of x o)

@@ -1,14 +1,14 @@
 -- The texts of the shipped leaf.
-use Rattle.std.specs.Prelude.{ℕ, ◌^◌, ◌||◌, Bool, true, false, List, [], ◌∷◌, ◌++◌, codes, Option, None, Some, option_map, bytes_eq, if◌then◌else◌, ◌==◌, nat_lt, encode_utf8}
+use Rattle.std.specs.Prelude.{ℕ, ℤ, pos, neg_ℤ, ◌&&◌, ◌||◌, not, Bool, true, false, List, [], ◌∷◌, ◌++◌, codes, Option, None, Some, option_and_then, option_map, bytes_eq, if◌then◌else◌, ◌==◌, nat_lt, encode_utf8}
 use Rattle.std.specs.Fmt.{digits, signed_decimal}
 use Rattle.std.specs.List.{flat_map}
 use Rattle.std.specs.Str.{chars, is_utf8}
-use Rattle.facet_base.specs.Numeral.{unsigned_below, signed_in}
+use Rattle.facet_base.specs.Numeral.{are_digits, number_after, without_plus}
 use Rattle.facet_base.specs.declared.scalar_type.ScalarType.{ScalarType}
 use Rattle.facet_base.specs.declared.scalar_type.ScalarType.TheVariants as kind
 use Rattle.facet_leaf.specs.declared.scalar.Scalar.{Scalar}
 use Rattle.facet_leaf.specs.declared.scalar.Scalar.TheVariants as scalar
-use Rattle.facet_leaf.specs.Scalar.{number_of}
+use Rattle.facet_leaf.specs.Scalar.{has_negative, number_of, whole_of}
 
 -- `true` and `false`
 abbrev pub truth_of : List ℕ → Option Bool
@@ -19,24 +19,30 @@ abbrev pub only : List ℕ → Option ℕ
 only (c ∷ []) = Some c
 only _ = None
 
--- the scalar of the kind that a text is: a whole number in its range, `true` or `false`, exactly one character, or any text
+-- the number that decimal digits write, one or more
+abbrev pub number_in_digits : List ℕ → Option ℕ
+number_in_digits digits = if are_digits digits then Some (number_after 0 digits) else None
+
+-- the text begins with a minus
+abbrev pub has_minus : List ℕ → Bool
+has_minus [] = false
+has_minus (b ∷ text) = b == 45
+
+-- the whole number that a text writes: perhaps a sign, and one digit or more
+abbrev pub number_written : List ℕ → Option ℤ
+number_written [] = None
+number_written (b ∷ text) = if b == 45 then option_map (λ n. neg_ℤ (pos n)) (number_in_digits text) else option_map pos (number_in_digits (without_plus (b ∷ text)))
+
+-- the whole number of the kind that a text writes; a minus stands only where the kind has numbers below zero
+abbrev pub whole_parsed : ScalarType → List ℕ → Option Scalar
+whole_parsed k text = if has_minus text && not (has_negative k) then None else option_and_then (whole_of k) (number_written text)
+
+-- the scalar of the kind that a text is: `true` or `false`, exactly one character, any text, or a whole number
 unfoldable pub scalar_parsed : ScalarType → List ℕ → Option Scalar
 scalar_parsed kind.Bool text = option_map scalar.Bool (truth_of text)
 scalar_parsed kind.Char text = option_map scalar.Char (only (chars text))
 scalar_parsed kind.String text = Some (scalar.String text)
-scalar_parsed kind.U8 text = option_map scalar.U8 (unsigned_below (2 ^ 8) text)
-scalar_parsed kind.U16 text = option_map scalar.U16 (unsigned_below (2 ^ 16) text)
-scalar_parsed kind.U32 text = option_map scalar.U32 (unsigned_below (2 ^ 32) text)
-scalar_parsed kind.U64 text = option_map scalar.U64 (unsigned_below (2 ^ 64) text)
-scalar_parsed kind.U128 text = option_map scalar.U128 (unsigned_below (2 ^ 128) text)
-scalar_parsed kind.USize text = option_map scalar.USize (unsigned_below (2 ^ 64) text)
-scalar_parsed kind.I8 text = option_map scalar.I8 (signed_in 7 text)
-scalar_parsed kind.I16 text = option_map scalar.I16 (signed_in 15 text)
-scalar_parsed kind.I32 text = option_map scalar.I32 (signed_in 31 text)
-scalar_parsed kind.I64 text = option_map scalar.I64 (signed_in 63 text)
-scalar_parsed kind.I128 text = option_map scalar.I128 (signed_in 127 text)
-scalar_parsed kind.ISize text = option_map scalar.ISize (signed_in 63 text)
-scalar_parsed k text = None
+scalar_parsed k text = whole_parsed k text
 
 -- the String that bytes are, exactly where they are UTF-8
 abbrev pub scalar_parsed_bytes : ScalarType → List ℕ → Option Scalar

@@ -1,5 +1,5 @@
-ghost use Rattle.std.specs.Prelude.{◌≡◌, pos, negsuc};
-ghost use Rattle.facet_leaf.specs.Scalar.{scalar_converted, whole_of};
+ghost use Rattle.std.specs.Prelude.{◌≡◌, None, negsuc, pos, if◌then◌else◌};
+ghost use Rattle.facet_leaf.specs.Scalar.{has_negative, scalar_converted, signed_of, whole_of};
 
 use crate::conversion::Conversion;
 use crate::kinds::{is_whole_kind, scalar_kind_of};
@@ -25,7 +25,7 @@ pub(crate) fn convert_scalar(kind: ScalarType, from: Scalar) -> Conversion<Scala
 }
 
 // The whole number n of a kind, where there is one.
-fn whole_at_least_zero(kind: ScalarType, n: u128) -> Option<Scalar>
+pub(crate) fn whole_at_least_zero(kind: ScalarType, n: u128) -> Option<Scalar>
     ensures { result ≡ whole_of kind (pos n) }
 {
     match kind {
@@ -49,13 +49,28 @@ fn whole_at_least_zero(kind: ScalarType, n: u128) -> Option<Scalar>
 fn whole_below_zero(kind: ScalarType, n: u128) -> Option<Scalar>
     ensures { result ≡ whole_of kind (negsuc n) }
 {
+    let number = complement(n)?;
+    signed_whole(kind, number)
+}
+
+// The number -1 - n, where an i128 has it.
+fn complement(n: u128) -> Option<i128>
+    ensures { result ≡ signed_of 127 (negsuc n) }
+{
+    Some(-1 - i128::try_from(n).ok()?)
+}
+
+// The whole number z of a kind that has numbers below zero, where there is one.
+pub(crate) fn signed_whole(kind: ScalarType, z: i128) -> Option<Scalar>
+    ensures { result ≡ (if has_negative kind then whole_of kind z else None) }
+{
     match kind {
-        ScalarType::I8 => Some(Scalar::I8(-1 - i8::try_from(n).ok()?)),
-        ScalarType::I16 => Some(Scalar::I16(-1 - i16::try_from(n).ok()?)),
-        ScalarType::I32 => Some(Scalar::I32(-1 - i32::try_from(n).ok()?)),
-        ScalarType::I64 => Some(Scalar::I64(-1 - i64::try_from(n).ok()?)),
-        ScalarType::I128 => Some(Scalar::I128(-1 - i128::try_from(n).ok()?)),
-        ScalarType::ISize => Some(Scalar::ISize(-1 - isize::try_from(n).ok()?)),
+        ScalarType::I8 => Some(Scalar::I8(i8::try_from(z).ok()?)),
+        ScalarType::I16 => Some(Scalar::I16(i16::try_from(z).ok()?)),
+        ScalarType::I32 => Some(Scalar::I32(i32::try_from(z).ok()?)),
+        ScalarType::I64 => Some(Scalar::I64(i64::try_from(z).ok()?)),
+        ScalarType::I128 => Some(Scalar::I128(z)),
+        ScalarType::ISize => Some(Scalar::ISize(isize::try_from(z).ok()?)),
         _ => None,
     }
 }

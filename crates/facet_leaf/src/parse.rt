@@ -1,7 +1,8 @@
-ghost use Rattle.std.specs.Prelude.{◌≡◌, ◌≢◌, IsTrue, IfOk, OnErr, Some, ok_or};
+ghost use Rattle.std.specs.Prelude.{◌≡◌, ◌≢◌, IsTrue, IfOk, OnErr, Some, false, ok_or, true};
 ghost use Rattle.facet_leaf.specs.Scalar.{scalar_can, scalar_default, scalar_kind};
-ghost use Rattle.facet_leaf.specs.ScalarTexts.{scalar_parsed, scalar_parsed_bytes};
+ghost use Rattle.facet_leaf.specs.ScalarTexts.{has_minus, scalar_parsed, scalar_parsed_bytes, whole_parsed};
 
+use crate::convert::{signed_whole, whole_at_least_zero};
 use crate::scalar::Scalar;
 use facet_base::{Characteristic, ParseError, ScalarType, Text};
 use std::alloc::{AllocError, Global};
@@ -47,22 +48,10 @@ pub(crate) fn default_scalar(alloc: Global, kind: ScalarType) -> Result<Scalar, 
     ensures made { IfOk result (λ leaf. scalar_default kind ≡ Some leaf) }
 {
     match kind {
-        ScalarType::Unit | ScalarType::Str => unreachable!(),
         ScalarType::Bool => Ok(Scalar::Bool(false)),
         ScalarType::Char => Ok(Scalar::Char('\0')),
         ScalarType::String => Ok(Scalar::String(Text::new(alloc, "")?)),
-        ScalarType::U8 => Ok(Scalar::U8(0)),
-        ScalarType::U16 => Ok(Scalar::U16(0)),
-        ScalarType::U32 => Ok(Scalar::U32(0)),
-        ScalarType::U64 => Ok(Scalar::U64(0)),
-        ScalarType::U128 => Ok(Scalar::U128(0)),
-        ScalarType::USize => Ok(Scalar::USize(0)),
-        ScalarType::I8 => Ok(Scalar::I8(0)),
-        ScalarType::I16 => Ok(Scalar::I16(0)),
-        ScalarType::I32 => Ok(Scalar::I32(0)),
-        ScalarType::I64 => Ok(Scalar::I64(0)),
-        ScalarType::I128 => Ok(Scalar::I128(0)),
-        ScalarType::ISize => Ok(Scalar::ISize(0)),
+        _ => Ok(whole_at_least_zero(kind, 0).unwrap()),
     }
 }
 
@@ -96,26 +85,11 @@ fn parse_plain(kind: ScalarType, text: &str) -> Option<Scalar>
     ensures { result ≡ scalar_parsed kind text.now }
 {
     match kind {
-        ScalarType::Unit | ScalarType::Str => None,
-        ScalarType::String => unreachable!(),
         ScalarType::Bool => parse_bool(text),
         ScalarType::Char => parse_char(text),
-        ScalarType::U8 => parse_u8(text),
-        ScalarType::U16 => parse_u16(text),
-        ScalarType::U32 => parse_u32(text),
-        ScalarType::U64 => parse_u64(text),
-        ScalarType::U128 => parse_u128(text),
-        ScalarType::USize => parse_usize(text),
-        ScalarType::I8 => parse_i8(text),
-        ScalarType::I16 => parse_i16(text),
-        ScalarType::I32 => parse_i32(text),
-        ScalarType::I64 => parse_i64(text),
-        ScalarType::I128 => parse_i128(text),
-        ScalarType::ISize => parse_isize(text),
+        _ => parse_whole(kind, text),
     }
 }
-
-// Below, a function for each kind: the scalar of that kind that a text is, where it is one.
 
 fn parse_bool(text: &str) -> Option<Scalar>
     ensures { result ≡ scalar_parsed ScalarType.Bool text.now }
@@ -129,74 +103,29 @@ fn parse_char(text: &str) -> Option<Scalar>
     Some(Scalar::Char(text.parse().ok()?))
 }
 
-fn parse_u8(text: &str) -> Option<Scalar>
-    ensures { result ≡ scalar_parsed ScalarType.U8 text.now }
+// The whole number of a kind that a text is, where it is one.
+fn parse_whole(kind: ScalarType, text: &str) -> Option<Scalar>
+    ensures { result ≡ whole_parsed kind text.now }
 {
-    Some(Scalar::U8(text.parse().ok()?))
+    if text.starts_with('-') {
+        parse_with_minus(kind, text)
+    } else {
+        parse_without_minus(kind, text)
+    }
 }
 
-fn parse_u16(text: &str) -> Option<Scalar>
-    ensures { result ≡ scalar_parsed ScalarType.U16 text.now }
+fn parse_with_minus(kind: ScalarType, text: &str) -> Option<Scalar>
+    requires { has_minus text.now ≡ true }
+    ensures { result ≡ whole_parsed kind text.now }
 {
-    Some(Scalar::U16(text.parse().ok()?))
+    let number: i128 = text.parse().ok()?;
+    signed_whole(kind, number)
 }
 
-fn parse_u32(text: &str) -> Option<Scalar>
-    ensures { result ≡ scalar_parsed ScalarType.U32 text.now }
+fn parse_without_minus(kind: ScalarType, text: &str) -> Option<Scalar>
+    requires { has_minus text.now ≡ false }
+    ensures { result ≡ whole_parsed kind text.now }
 {
-    Some(Scalar::U32(text.parse().ok()?))
-}
-
-fn parse_u64(text: &str) -> Option<Scalar>
-    ensures { result ≡ scalar_parsed ScalarType.U64 text.now }
-{
-    Some(Scalar::U64(text.parse().ok()?))
-}
-
-fn parse_u128(text: &str) -> Option<Scalar>
-    ensures { result ≡ scalar_parsed ScalarType.U128 text.now }
-{
-    Some(Scalar::U128(text.parse().ok()?))
-}
-
-fn parse_usize(text: &str) -> Option<Scalar>
-    ensures { result ≡ scalar_parsed ScalarType.USize text.now }
-{
-    Some(Scalar::USize(text.parse().ok()?))
-}
-
-fn parse_i8(text: &str) -> Option<Scalar>
-    ensures { result ≡ scalar_parsed ScalarType.I8 text.now }
-{
-    Some(Scalar::I8(text.parse().ok()?))
-}
-
-fn parse_i16(text: &str) -> Option<Scalar>
-    ensures { result ≡ scalar_parsed ScalarType.I16 text.now }
-{
-    Some(Scalar::I16(text.parse().ok()?))
-}
-
-fn parse_i32(text: &str) -> Option<Scalar>
-    ensures { result ≡ scalar_parsed ScalarType.I32 text.now }
-{
-    Some(Scalar::I32(text.parse().ok()?))
-}
-
-fn parse_i64(text: &str) -> Option<Scalar>
-    ensures { result ≡ scalar_parsed ScalarType.I64 text.now }
-{
-    Some(Scalar::I64(text.parse().ok()?))
-}
-
-fn parse_i128(text: &str) -> Option<Scalar>
-    ensures { result ≡ scalar_parsed ScalarType.I128 text.now }
-{
-    Some(Scalar::I128(text.parse().ok()?))
-}
-
-fn parse_isize(text: &str) -> Option<Scalar>
-    ensures { result ≡ scalar_parsed ScalarType.ISize text.now }
-{
-    Some(Scalar::ISize(text.parse().ok()?))
+    let number: u128 = text.parse().ok()?;
+    whole_at_least_zero(kind, number)
 }

@@ -1,190 +1,171 @@
+use crate::conversion::Conversion;
+use crate::convert::convert_scalar;
+use crate::hook::LeafHook;
 use crate::kinds::scalar_kind_of;
+use crate::leaf::Leaf;
+use crate::order::order_scalars;
 use crate::parse::parse_scalar;
 use crate::scalar::Scalar;
 use crate::texts::{write_debug_of, write_display_of};
-use facet_base::ScalarType;
+use facet_base::{Characteristic, ScalarType, Text};
 use std::alloc::{AllocError, Global};
-use std::process::Abort;
+use std::cmp::Ordering;
+use std::test::Fail;
 
-mod conversions;
 mod hashing;
 mod laws_used;
-mod making;
-mod order;
-mod parsing;
-mod texts;
 
-// A kind of whole numbers, and four numbers in decimal digits.
-type WholeKind = (
-    ScalarType,
-    &'static str,
-    &'static str,
-    &'static str,
-    &'static str,
-);
-
-// Each kind of whole numbers: the kind, the number before its least one, the least, the greatest, and the one behind it.
-fn whole_kinds() -> [WholeKind; 12] {
-    [
-        (ScalarType::U8, "-1", "0", "255", "256"),
-        (ScalarType::U16, "-1", "0", "65535", "65536"),
-        (ScalarType::U32, "-1", "0", "4294967295", "4294967296"),
-        (
-            ScalarType::U64,
-            "-1",
-            "0",
-            "18446744073709551615",
-            "18446744073709551616",
-        ),
-        (
-            ScalarType::U128,
-            "-1",
-            "0",
-            "340282366920938463463374607431768211455",
-            "340282366920938463463374607431768211456",
-        ),
-        (
-            ScalarType::USize,
-            "-1",
-            "0",
-            "18446744073709551615",
-            "18446744073709551616",
-        ),
-        (ScalarType::I8, "-129", "-128", "127", "128"),
-        (ScalarType::I16, "-32769", "-32768", "32767", "32768"),
-        (
-            ScalarType::I32,
-            "-2147483649",
-            "-2147483648",
-            "2147483647",
-            "2147483648",
-        ),
-        (
-            ScalarType::I64,
-            "-9223372036854775809",
-            "-9223372036854775808",
-            "9223372036854775807",
-            "9223372036854775808",
-        ),
-        (
-            ScalarType::I128,
-            "-170141183460469231731687303715884105729",
-            "-170141183460469231731687303715884105728",
-            "170141183460469231731687303715884105727",
-            "170141183460469231731687303715884105728",
-        ),
-        (
-            ScalarType::ISize,
-            "-9223372036854775809",
-            "-9223372036854775808",
-            "9223372036854775807",
-            "9223372036854775808",
-        ),
-    ]
+// The debug text of a leaf, and then its display text.
+fn texts_of(alloc: Global, leaf: &Scalar) -> Result<Vec<u8>, AllocError> {
+    let mut texts = Vec::new(alloc);
+    write_debug_of(leaf, &mut texts)?;
+    write_display_of(leaf, &mut texts)?;
+    Ok(texts)
 }
 
-// The edges of all kinds of whole numbers, and the numbers around 0, in ascending order.
-fn edges() -> [&'static str; 33] {
-    [
-        "-170141183460469231731687303715884105729",
-        "-170141183460469231731687303715884105728",
-        "-9223372036854775809",
-        "-9223372036854775808",
-        "-2147483649",
-        "-2147483648",
-        "-32769",
-        "-32768",
-        "-129",
-        "-128",
-        "-1",
-        "0",
-        "1",
-        "127",
-        "128",
-        "255",
-        "256",
-        "32767",
-        "32768",
-        "65535",
-        "65536",
-        "2147483647",
-        "2147483648",
-        "4294967295",
-        "4294967296",
-        "9223372036854775807",
-        "9223372036854775808",
-        "18446744073709551615",
-        "18446744073709551616",
-        "170141183460469231731687303715884105727",
-        "170141183460469231731687303715884105728",
-        "340282366920938463463374607431768211455",
-        "340282366920938463463374607431768211456",
-    ]
+#[test]
+fn a_text_is_parsed_copied_and_shown(rt: HostRuntime) -> Result<(), Fail> {
+    let alloc = rt.alloc();
+    let leaf = Scalar::parse(alloc, ScalarType::String, "a\"\n")?
+        .ok()
+        .ok_or("a String")?;
+    let copy = leaf.clone_leaf(alloc)?;
+    assert_eq!(rt;
+        texts_of(alloc, &copy)?.as_slice(),
+        b"\"a\\\"\\n\"a\"\n".as_slice()
+    );
+    Ok(())
 }
 
-// The other kinds that are stored.
-const OTHER_KINDS: [ScalarType; 3] = [ScalarType::Bool, ScalarType::Char, ScalarType::String];
-
-fn debug_text(alloc: Global, leaf: &Scalar) -> Result<Vec<u8>, AllocError> {
-    let mut text = Vec::new(alloc);
-    write_debug_of(leaf, &mut text)?;
-    Ok(text)
+#[test]
+fn bytes_are_a_string_where_they_are_utf8(rt: HostRuntime) -> Result<(), Fail> {
+    let alloc = rt.alloc();
+    let leaf = Scalar::parse_bytes(alloc, ScalarType::String, b"\xc3\xa9")?
+        .ok()
+        .ok_or("a String")?;
+    assert_eq!(rt; texts_of(alloc, &leaf)?.as_slice(), "\"é\"é".as_bytes());
+    let refused = Scalar::parse_bytes(alloc, ScalarType::String, b"\xc3")?;
+    assert!(rt; refused.is_err());
+    Ok(())
 }
 
-fn display_text(alloc: Global, leaf: &Scalar) -> Result<Vec<u8>, AllocError> {
-    let mut text = Vec::new(alloc);
-    write_display_of(leaf, &mut text)?;
-    Ok(text)
+#[test]
+fn a_kind_has_its_default(rt: HostRuntime) -> Result<(), Fail> {
+    let alloc = rt.alloc();
+    let leaf = Scalar::default_of(alloc, ScalarType::String)?;
+    assert_eq!(rt; texts_of(alloc, &leaf)?.as_slice(), b"\"\"".as_slice());
+    let leaf = Scalar::default_of(alloc, ScalarType::I8)?;
+    assert_eq!(rt; texts_of(alloc, &leaf)?.as_slice(), b"00".as_slice());
+    Ok(())
 }
 
-// The debug text of what a text is in a kind, `refused` where it isn't anything, and `misnamed` where what
-// comes back is or names another kind.
-fn parsed(alloc: Global, kind: ScalarType, text: &str) -> Result<Vec<u8>, AllocError> {
-    match parse_scalar(alloc, kind, text)? {
-        Ok(leaf) if scalar_kind_of(&leaf) == kind => debug_text(alloc, &leaf),
-        Err(error) if error.kind == kind => b"refused".to_vec(alloc),
-        _ => b"misnamed".to_vec(alloc),
+#[test]
+fn the_method_converts(rt: HostRuntime) -> Result<(), Fail> {
+    match Scalar::convert(rt.alloc(), ScalarType::I8, Scalar::U16(127)) {
+        Ok(Conversion::Converted(Scalar::I8(number))) => assert_eq!(rt; number, 127),
+        _ => assert!(rt; false, "127 is an i8"),
+    }
+    Ok(())
+}
+
+// How a conversion ended, and the leaf in it.
+fn end_of(conversion: Conversion<Scalar>) -> (&'static str, Scalar) {
+    match conversion {
+        Conversion::Converted(leaf) => ("converted", leaf),
+        Conversion::Unsupported(leaf) => ("unsupported", leaf),
+        Conversion::Failed(leaf) => ("failed", leaf),
     }
 }
 
-// Asserts that a text is a leaf of a kind with the wanted debug text, or is refused where that is `refused`.
-fn assert_parsed(
-    rt: &impl Abort,
-    alloc: Global,
-    kind: ScalarType,
-    text: &str,
-    wanted: &str,
-) -> Result<(), AllocError> {
-    assert_eq!(rt;
-        parsed(alloc, kind, text)?.as_slice(),
-        wanted.as_bytes(),
-        "at {kind:?} {text:?}"
-    );
+#[test]
+fn a_number_is_converted_where_the_kind_has_it(rt: HostRuntime) -> Result<(), Fail> {
+    let alloc = rt.alloc();
+    for (source, text, target, how, kind) in [
+        (
+            ScalarType::U16,
+            "255",
+            ScalarType::U8,
+            "converted",
+            ScalarType::U8,
+        ),
+        (
+            ScalarType::U16,
+            "256",
+            ScalarType::U8,
+            "failed",
+            ScalarType::U16,
+        ),
+        (
+            ScalarType::I8,
+            "-1",
+            ScalarType::U128,
+            "failed",
+            ScalarType::I8,
+        ),
+        (
+            ScalarType::I128,
+            "-129",
+            ScalarType::I8,
+            "failed",
+            ScalarType::I128,
+        ),
+        (
+            ScalarType::I64,
+            "-128",
+            ScalarType::I8,
+            "converted",
+            ScalarType::I8,
+        ),
+        (
+            ScalarType::U8,
+            "1",
+            ScalarType::Bool,
+            "failed",
+            ScalarType::U8,
+        ),
+        (
+            ScalarType::Bool,
+            "true",
+            ScalarType::U8,
+            "unsupported",
+            ScalarType::Bool,
+        ),
+    ] {
+        let from = parse_scalar(alloc, source, text)?.ok().ok_or("a scalar")?;
+        let (end, leaf) = end_of(convert_scalar(target, from));
+        assert_eq!(rt; end, how, "at {text}");
+        assert_eq!(rt; scalar_kind_of(&leaf), kind, "at {text}");
+    }
     Ok(())
 }
 
-// Asserts what the two texts of a leaf are.
-fn assert_texts(
-    rt: &impl Abort,
-    alloc: Global,
-    leaf: &Scalar,
-    debug: &[u8],
-    display: &[u8],
-) -> Result<(), AllocError> {
-    assert_eq!(rt;
-        debug_text(alloc, leaf)?.as_slice(),
-        debug,
-        "at {display:?}"
-    );
-    assert_eq!(rt;
-        display_text(alloc, leaf)?.as_slice(),
-        display,
-        "at {display:?}"
-    );
+#[test]
+fn leaves_are_ordered_by_value(rt: HostRuntime) -> Result<(), Fail> {
+    let alloc = rt.alloc();
+    for (kind, less, greater) in [
+        (ScalarType::Bool, "false", "true"),
+        (ScalarType::U8, "9", "10"),
+        (ScalarType::I128, "-10", "-9"),
+        (ScalarType::ISize, "-1", "0"),
+        (ScalarType::Char, "\u{ff}", "\u{100}"),
+        (ScalarType::String, "abz", "b"),
+        (ScalarType::String, "a", "a\0"),
+        (ScalarType::String, "\u{ffff}", "\u{10000}"),
+    ] {
+        let a = parse_scalar(alloc, kind, less)?.ok().ok_or("a scalar")?;
+        let b = parse_scalar(alloc, kind, greater)?.ok().ok_or("a scalar")?;
+        assert_eq!(rt; scalar_kind_of(&a), scalar_kind_of(&b));
+        assert_eq!(rt; order_scalars(&a, &b), Ordering::Less, "at {less}");
+    }
     Ok(())
 }
 
-// Where a number stands among the edges.
-fn place(number: &str) -> Option<usize> {
-    edges().iter().position(|edge| *edge == number)
+#[test]
+fn a_kind_has_its_capabilities_and_hooks(rt: HostRuntime) {
+    assert!(rt; Scalar::can(ScalarType::I8, Characteristic::Ord));
+    assert!(rt; !Scalar::can(ScalarType::Str, Characteristic::Ord));
+    assert!(rt; Scalar::can(ScalarType::Unit, Characteristic::Debug));
+    assert!(rt; Scalar::hook(ScalarType::String, LeafHook::ParseBytes));
+    assert!(rt; !Scalar::hook(ScalarType::Char, LeafHook::TryFrom));
+    assert!(rt; !Scalar::hook(ScalarType::U8, LeafHook::Invariants));
 }

@@ -1,7 +1,6 @@
-use Rattle.std.proofs.Common.{refl, inl, inr}
-use Rattle.facet_leaf.specs.ScalarTexts.{scalar_parsed}
+use Rattle.std.proofs.Common.{◌∙◌, sym}
+use Rattle.facet_leaf.proofs.Parsing.{other_parsed}
 use Rattle.facet_leaf.proofs.parse.parse_plain.Goals as goal
 
-pub returns-in-Unit : goal.returns-in-Unit
-unfolding scalar_parsed
-returns-in-Unit c = elim c.in-Unit.is [ inl unit ↦ rw unit refl | inr text ↦ rw text refl ]
+pub returns-in_default : goal.returns-in_default
+returns-in_default c = c.parse_whole.ensures ∙ sym (other_parsed c.args.kind c.args.text.now c.in_default.not-Bool c.in_default.not-Char c.requires)
