@@ -5,10 +5,11 @@ use crate::flags::{
     insert_by_bits, intersection_by_bits, remove_by_bits, set_of_its_bits, union_by_bits,
 };
 use bitflags::Flags;
-use std::alloc::AllocError;
+use std::alloc::{AllocError, Global};
+use std::fmt;
 
-// The constants of the flag sets, with their numbers.
-fn numbers() -> [(u16, u16); 22] {
+// The constants and the defaults of the flag sets, with their numbers.
+fn constants() -> [(u16, u16); 26] {
     [
         (u16::from(MarkerTraits::COPY.bits()), 1),
         (u16::from(MarkerTraits::SEND.bits()), 2),
@@ -17,14 +18,17 @@ fn numbers() -> [(u16, u16); 22] {
         (u16::from(MarkerTraits::UNPIN.bits()), 16),
         (u16::from(MarkerTraits::UNWIND_SAFE.bits()), 32),
         (u16::from(MarkerTraits::REF_UNWIND_SAFE.bits()), 64),
+        (u16::from(MarkerTraits::default().bits()), 0),
         (u16::from(PointerFlags::EMPTY.bits()), 0),
         (u16::from(PointerFlags::WEAK.bits()), 1),
         (u16::from(PointerFlags::ATOMIC.bits()), 2),
         (u16::from(PointerFlags::LOCK.bits()), 4),
+        (u16::from(PointerFlags::default().bits()), 0),
         (ShapeFlags::UNTAGGED.bits(), 1),
         (ShapeFlags::NUMERIC.bits(), 2),
         (ShapeFlags::POD.bits(), 4),
         (ShapeFlags::METADATA_CONTAINER.bits(), 8),
+        (ShapeFlags::default().bits(), 0),
         (FieldFlags::SENSITIVE.bits(), 1),
         (FieldFlags::FLATTEN.bits(), 2),
         (FieldFlags::SKIP.bits(), 4),
@@ -32,88 +36,29 @@ fn numbers() -> [(u16, u16); 22] {
         (FieldFlags::SKIP_DESERIALIZING.bits(), 16),
         (FieldFlags::CHILD.bits(), 32),
         (FieldFlags::RECURSIVE_TYPE.bits(), 64),
+        (FieldFlags::default().bits(), 0),
     ]
 }
 
-#[test]
-fn constants_have_their_numbers(rt: HostRuntime) {
-    for (bits, number) in numbers() {
-        assert_eq!(rt; bits, number);
-    }
-}
-
-// Bits of marker traits, with the debug text.
-fn marker_texts() -> [(u8, &'static str); 5] {
-    [
-        (0, "(empty)"),
-        (9, "COPY | EQ"),
-        (128, "(empty)"),
-        (130, "SEND"),
-        (
-            255,
-            "COPY | SEND | SYNC | EQ | UNPIN | UNWIND_SAFE | REF_UNWIND_SAFE",
-        ),
-    ]
-}
-
-// Bits of pointer flags, with the debug text.
-fn pointer_texts() -> [(u8, &'static str); 3] {
-    [
-        (0, "EMPTY"),
-        (1, "EMPTY | WEAK"),
-        (255, "EMPTY | WEAK | ATOMIC | LOCK"),
-    ]
-}
-
-#[test]
-fn debug_has_the_names_of_contained_flags(rt: HostRuntime) -> Result<(), AllocError> {
-    for (bits, text) in marker_texts() {
-        let shown = format!(in rt.alloc(); "{:?}", MarkerTraits::from_bits_retain(bits))?;
-        assert_eq!(rt; shown.as_str(), text);
-    }
-    for (bits, text) in pointer_texts() {
-        let shown = format!(in rt.alloc(); "{:?}", PointerFlags::from_bits_retain(bits))?;
-        assert_eq!(rt; shown.as_str(), text);
-    }
-    Ok(())
-}
-
-#[test]
-fn debug_of_sixteen_bits(rt: HostRuntime) -> Result<(), AllocError> {
-    let shape = format!(in rt.alloc(); "{:?}", ShapeFlags::POD | ShapeFlags::UNTAGGED)?;
-    assert_eq!(rt; shape.as_str(), "UNTAGGED | POD");
-    let field = format!(in rt.alloc(); "{:?}", FieldFlags::RECURSIVE_TYPE | FieldFlags::CHILD)?;
-    assert_eq!(rt; field.as_str(), "CHILD | RECURSIVE_TYPE");
-    Ok(())
-}
-
-// What each operator returns of marker traits, with its number.
-fn operations() -> [(MarkerTraits, u8); 8] {
-    let both = MarkerTraits::COPY | MarkerTraits::EQ;
-    let mut joined = MarkerTraits::COPY;
-    joined |= MarkerTraits::EQ;
+// What each operator returns, with its number.
+fn operations() -> [(u16, u16); 8] {
+    let both = FieldFlags::SENSITIVE | FieldFlags::SKIP_SERIALIZING;
+    let mut joined = FieldFlags::SENSITIVE;
+    joined |= FieldFlags::SKIP_SERIALIZING;
     let mut common = both;
-    common &= MarkerTraits::EQ;
+    common &= FieldFlags::SKIP_SERIALIZING;
     let mut flipped = both;
-    flipped ^= MarkerTraits::EQ;
+    flipped ^= FieldFlags::SKIP_SERIALIZING;
     [
-        (both, 9),
-        (joined, 9),
-        (both & MarkerTraits::EQ, 8),
-        (common, 8),
-        (both ^ MarkerTraits::SEND, 11),
-        (flipped, 1),
-        (!both, 246),
-        (!MarkerTraits::empty(), 255),
+        (both.bits(), 9),
+        (joined.bits(), 9),
+        ((both & FieldFlags::SKIP_SERIALIZING).bits(), 8),
+        (common.bits(), 8),
+        ((both ^ FieldFlags::FLATTEN).bits(), 11),
+        (flipped.bits(), 1),
+        ((!both).bits(), 65526),
+        (u16::from((!MarkerTraits::EQ).bits()), 247),
     ]
-}
-
-#[test]
-fn operators_work_on_all_bits(rt: HostRuntime) {
-    for (set, bits) in operations() {
-        assert_eq!(rt; set.bits(), bits);
-    }
-    assert_eq!(rt; (!ShapeFlags::POD).bits(), 65531);
 }
 
 // The law of `remove` without its premises, which each set of eight bits meets.
@@ -134,30 +79,82 @@ fn difference_of_sixteen_bits(set: FieldFlags, other: FieldFlags) -> FieldFlags
     rest
 }
 
-#[test]
-fn calls_are_those_of_sets(rt: HostRuntime) {
+// What each call on sets returns, with its number.
+fn calls() -> [(u16, u16); 8] {
     let mut set = union_by_bits(FieldFlags::SKIP, FieldFlags::CHILD);
-    assert_eq!(rt; set.bits(), 36);
     insert_by_bits(&mut set, FieldFlags::FLATTEN);
-    assert!(rt; contains_by_bits(&set, FieldFlags::FLATTEN | FieldFlags::SKIP));
-    assert!(rt; !contains_by_bits(&set, FieldFlags::FLATTEN | FieldFlags::SENSITIVE));
-    let set = difference_of_sixteen_bits(set, FieldFlags::SKIP | FieldFlags::SENSITIVE);
-    assert_eq!(rt; set.bits(), 34);
-    let no_copy = difference_of_eight_bits(MarkerTraits::COPY, !MarkerTraits::EQ);
-    assert!(rt; no_copy.is_empty());
-    assert_eq!(rt;
-        intersection_by_bits(set, FieldFlags::CHILD),
-        FieldFlags::CHILD
-    );
-    assert_eq!(rt; set_of_its_bits(set), set);
-    assert_eq!(rt; bits_of_their_set::<PointerFlags>(200), 200);
+    let rest = difference_of_sixteen_bits(set, FieldFlags::SKIP | FieldFlags::SENSITIVE);
+    let copy = difference_of_eight_bits(MarkerTraits::COPY, !MarkerTraits::EQ);
+    [
+        (set.bits(), 38),
+        (rest.bits(), 34),
+        (u16::from(copy.bits()), 0),
+        (
+            u16::from(contains_by_bits(&set, FieldFlags::FLATTEN | FieldFlags::SKIP)),
+            1,
+        ),
+        (
+            u16::from(contains_by_bits(&rest, FieldFlags::FLATTEN | FieldFlags::SKIP)),
+            0,
+        ),
+        (intersection_by_bits(rest, FieldFlags::CHILD).bits(), 32),
+        (set_of_its_bits(rest).bits(), 34),
+        (u16::from(bits_of_their_set::<PointerFlags>(200)), 200),
+    ]
 }
 
 #[test]
-fn default_is_empty(rt: HostRuntime) {
-    assert!(rt; MarkerTraits::default().is_empty());
-    assert!(rt; ShapeFlags::default().is_empty());
-    assert!(rt; FieldFlags::default().is_empty());
-    assert!(rt; PointerFlags::default().is_empty());
-    assert!(rt; PointerFlags::EMPTY.is_empty());
+fn constants_and_calls_have_their_numbers(rt: HostRuntime) {
+    for (bits, number) in constants() {
+        assert_eq!(rt; bits, number);
+    }
+    for (bits, number) in operations() {
+        assert_eq!(rt; bits, number);
+    }
+    for (bits, number) in calls() {
+        assert_eq!(rt; bits, number);
+    }
+}
+
+// Whether `{:?}` prints a set as this text.
+fn prints<F: fmt::Debug>(alloc: Global, set: &F, text: &str) -> Result<bool, AllocError> {
+    Ok(format!(in alloc; "{set:?}")?.as_str() == text)
+}
+
+// Bits, with the debug texts of marker traits, pointer flags, shape flags and field flags.
+fn texts() -> [(u8, [&'static str; 4]); 4] {
+    [
+        (0, ["(empty)", "EMPTY", "(empty)", "(empty)"]),
+        (
+            9,
+            [
+                "COPY | EQ",
+                "EMPTY | WEAK",
+                "UNTAGGED | METADATA_CONTAINER",
+                "SENSITIVE | SKIP_SERIALIZING",
+            ],
+        ),
+        (128, ["(empty)", "EMPTY", "(empty)", "(empty)"]),
+        (
+            255,
+            [
+                "COPY | SEND | SYNC | EQ | UNPIN | UNWIND_SAFE | REF_UNWIND_SAFE",
+                "EMPTY | WEAK | ATOMIC | LOCK",
+                "UNTAGGED | NUMERIC | POD | METADATA_CONTAINER",
+                "SENSITIVE | FLATTEN | SKIP | SKIP_SERIALIZING | SKIP_DESERIALIZING | CHILD | RECURSIVE_TYPE",
+            ],
+        ),
+    ]
+}
+
+#[test]
+fn debug_has_the_names_of_contained_flags(rt: HostRuntime) -> Result<(), AllocError> {
+    let alloc = rt.alloc();
+    for (bits, [marker, pointer, shape, field]) in texts() {
+        assert!(rt; prints(alloc, &MarkerTraits::from_bits_retain(bits), marker)?);
+        assert!(rt; prints(alloc, &PointerFlags::from_bits_retain(bits), pointer)?);
+        assert!(rt; prints(alloc, &ShapeFlags::from_bits_retain(bits.into()), shape)?);
+        assert!(rt; prints(alloc, &FieldFlags::from_bits_retain(bits.into()), field)?);
+    }
+    Ok(())
 }
