@@ -42,7 +42,7 @@ left-end (Ok _) before now after rest whole l h k =
 left-end (Err _) before now after rest whole l h k = (l.front, (rest, l.parts), k ∙ l.written)
 
 module _ (f : ℕ → List ℕ) where
-  -- the items at these places are written as they are
+  -- the items at these indices are written as they are
   abbrev pub AreKept : List ℕ → ℕ → ℕ → Type 0
   AreKept xs start end = (k : ℕ) → start ≤ k → k < end → f (get_or xs k 0) ≡ get_or xs k 0 ∷ []
 

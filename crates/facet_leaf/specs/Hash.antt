@@ -1,23 +1,31 @@
 -- What the shipped hash sinks make of their writes.
 use Rattle.std.specs.Prelude.{ℕ, ◌+◌, ◌-◌, ◌^◌, List, ◌++◌, length, take, min}
+use mir.Syntax.{Width}
 use Rattle.std.specs.Int.{w8, w16, w32, w64, w128, to_le_bytes, cast_unsigned}
-use Rattle.facet_leaf.specs.HashWrite.{HashWrite, bytes as of_bytes, of_u8, of_u16, of_u32, of_u64, of_u128, of_usize, of_i8, of_i16, of_i32, of_i64, of_i128, of_isize}
+use Rattle.facet_base.specs.declared.scalar_type.ScalarType.{ScalarType}
+use Rattle.facet_base.specs.declared.scalar_type.ScalarType.TheVariants as kind
+use Rattle.facet_leaf.specs.HashWrite.{HashWrite, bytes as of_bytes, number}
+
+-- how many bits the whole numbers of a kind have, and 8 where it has none
+abbrev pub width_of : ScalarType → Width
+width_of kind.U8 = w8
+width_of kind.U16 = w16
+width_of kind.U32 = w32
+width_of kind.U64 = w64
+width_of kind.U128 = w128
+width_of kind.USize = w64
+width_of kind.I8 = w8
+width_of kind.I16 = w16
+width_of kind.I32 = w32
+width_of kind.I64 = w64
+width_of kind.I128 = w128
+width_of kind.ISize = w64
+width_of k = w8
 
 -- the bytes of a write: a whole number's are as many as its type has, the lowest first, a negative number's in two's complement
 abbrev pub bytes_written : HashWrite → List ℕ
 bytes_written (of_bytes b) = b
-bytes_written (of_u8 n) = to_le_bytes w8 n
-bytes_written (of_u16 n) = to_le_bytes w16 n
-bytes_written (of_u32 n) = to_le_bytes w32 n
-bytes_written (of_u64 n) = to_le_bytes w64 n
-bytes_written (of_u128 n) = to_le_bytes w128 n
-bytes_written (of_usize n) = to_le_bytes w64 n
-bytes_written (of_i8 z) = to_le_bytes w8 (cast_unsigned w8 z)
-bytes_written (of_i16 z) = to_le_bytes w16 (cast_unsigned w16 z)
-bytes_written (of_i32 z) = to_le_bytes w32 (cast_unsigned w32 z)
-bytes_written (of_i64 z) = to_le_bytes w64 (cast_unsigned w64 z)
-bytes_written (of_i128 z) = to_le_bytes w128 (cast_unsigned w128 z)
-bytes_written (of_isize z) = to_le_bytes w64 (cast_unsigned w64 z)
+bytes_written (number k z) = to_le_bytes (width_of k) (cast_unsigned (width_of k) z)
 
 -- what a recorder holds: the bytes that it kept, how many it keeps at most, and how many were written
 pub record Recording : Type 0 where

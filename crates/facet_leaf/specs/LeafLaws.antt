@@ -1,4 +1,4 @@
--- What holds of the answers of every leaf type.
+-- What holds of the results of every leaf type.
 use Rattle.std.specs.Prelude.{◌≡◌, ℕ, true, List, Some, IfSome, IsSome, option_map, ◌↔◌}
 use Rattle.std.specs.Ordering.{ordering_reverse}
 use Rattle.std.specs.declared.cmp.Ordering.TheVariants.{Less, Equal}
@@ -28,7 +28,7 @@ module _ {L : Type 0} (m : LeafModel L) where
     pub can : m.can (m.kind x) c ≡ true
     pub one_kind : m.kind x ≡ m.kind y
 
-  -- what every leaf type must prove of its answers
+  -- what every leaf type must prove of its results
   pub record LeafLaws : Type 0 where
     -- a leaf is neither of kind Unit nor of kind Str
     pub stored : (x : L) → IsStored (m.kind x)
@@ -40,11 +40,11 @@ module _ {L : Type 0} (m : LeafModel L) where
     pub same_reflexive : (x : L) → m.can (m.kind x) characteristic.PartialEq ≡ true → m.same x x ≡ true
     pub same_symmetric : (x y : L) → Have characteristic.PartialEq x y → m.same x y ≡ m.same y x
     pub same_transitive : (x y z : L) → Have characteristic.PartialEq x y → Have characteristic.PartialEq y z → m.same x y ≡ true → m.same y z ≡ true → m.same x z ≡ true
-    -- the total order is one, and answers Equal exactly where the leaves are equal
+    -- the total order is one, and returns Equal exactly where the leaves are equal
     pub order_reversed : (x y : L) → Have characteristic.Ord x y → m.order y x ≡ ordering_reverse (m.order x y)
     pub order_transitive : (x y z : L) → Have characteristic.Ord x y → Have characteristic.Ord y z → m.order x y ≡ Less → m.order y z ≡ Less → m.order x z ≡ Less
     pub order_equal : (x y : L) → Have characteristic.Ord x y → (m.order x y ≡ Equal) ↔ (m.same x y ≡ true)
-    -- the partial order answers what the total one does, where both are there; it is Equal exactly where the leaves are equal, and is reversed with its arguments
+    -- the partial order returns what the total one does, where both are there; it is Equal exactly where the leaves are equal, and is reversed with its arguments
     pub partial_total : (x y : L) → Have characteristic.Ord x y → m.partial_order x y ≡ Some (m.order x y)
     pub partial_equal : (x y : L) → Have characteristic.PartialOrd x y → (m.partial_order x y ≡ Some Equal) ↔ (m.same x y ≡ true)
     pub partial_reversed : (x y : L) → Have characteristic.PartialOrd x y → m.partial_order y x ≡ option_map ordering_reverse (m.partial_order x y)
@@ -59,5 +59,5 @@ module _ {L : Type 0} (m : LeafModel L) where
     pub default_kind : (k : ScalarType) → IfSome (m.default_of k) (λ x. m.kind x ≡ k)
     -- a kind that can Default has one
     pub default_there : (k : ScalarType) → m.can k characteristic.Default ≡ true → IsSome (m.default_of k)
-    -- a conversion answers a leaf of the kind, or the one that was given
+    -- a conversion returns a leaf of the kind, or the one that was given
     pub conversion : (k : ScalarType) (x : L) → IsConversion m k x (m.converted k x)

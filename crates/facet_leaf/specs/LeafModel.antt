@@ -1,4 +1,4 @@
--- What the methods of a leaf type answer.
+-- What the methods of a leaf type return.
 use Rattle.std.specs.Prelude.{ℕ, Bool, List, Option}
 use Rattle.std.specs.declared.cmp.Ordering.{Ordering}
 use Rattle.facet_base.specs.declared.characteristic.Characteristic.{Characteristic}
@@ -7,7 +7,7 @@ use Rattle.facet_leaf.specs.declared.conversion.Conversion.{Conversion}
 use Rattle.facet_leaf.specs.declared.hook.LeafHook.{LeafHook}
 use Rattle.facet_leaf.specs.HashWrite.{HashWrite}
 
--- the answers, of which the contracts of a leaf type speak
+-- the results, of which the contracts of a leaf type speak
 pub record LeafModel (L : Type 0) : Type 0 where
   -- leaves of the kind have the capability, or the hook
   pub can : ScalarType → Characteristic → Bool

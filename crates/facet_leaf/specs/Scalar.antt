@@ -1,8 +1,9 @@
--- What the methods of the shipped leaf answer, apart from its texts.
+-- What the methods of the shipped leaf return, apart from its texts.
 use Rattle.std.specs.Prelude.{ℕ, ℤ, pos, negsuc, ◌^◌, ◌&&◌, Bool, true, false, not, cond, List, [], ◌∷◌, Option, None, Some, is_some, option_map, bytes_eq, if◌then◌else◌, ◌==◌, length, nat_lt}
 use Rattle.std.specs.Cmp.Lexicographic.{slice_cmp}
 use Rattle.std.specs.Ordering.{nat_cmp, int_cmp, int_eq, ordering_then}
 use Rattle.std.specs.declared.cmp.Ordering.{Ordering}
+use Rattle.facet_base.specs.ScalarType.{rank_of}
 use Rattle.facet_base.specs.declared.characteristic.Characteristic.{Characteristic}
 use Rattle.facet_base.specs.declared.characteristic.Characteristic.TheVariants as characteristic
 use Rattle.facet_base.specs.declared.scalar_type.ScalarType.{ScalarType}
@@ -13,7 +14,7 @@ use Rattle.facet_leaf.specs.declared.hook.LeafHook.{LeafHook}
 use Rattle.facet_leaf.specs.declared.hook.LeafHook.TheVariants as hook
 use Rattle.facet_leaf.specs.declared.scalar.Scalar.{Scalar}
 use Rattle.facet_leaf.specs.declared.scalar.Scalar.TheVariants as scalar
-use Rattle.facet_leaf.specs.HashWrite.{HashWrite, bytes, of_u8, of_u16, of_u32, of_u64, of_u128, of_usize, of_i8, of_i16, of_i32, of_i64, of_i128, of_isize}
+use Rattle.facet_leaf.specs.HashWrite.{HashWrite, bytes, number}
 
 -- every kind can Debug, and a kind that is stored has all capabilities
 abbrev pub scalar_can : ScalarType → Characteristic → Bool
@@ -90,47 +91,20 @@ scalar_order x y = ordering_then (int_cmp (number_of x) (number_of y)) (slice_cm
 abbrev pub same_value : Scalar → Scalar → Bool
 same_value x y = int_eq (number_of x) (number_of y) && bytes_eq (bytes_of x) (bytes_of y)
 
--- the place of a kind among all
-abbrev pub place_of_kind : ScalarType → ℕ
-place_of_kind kind.Unit = 0
-place_of_kind kind.Bool = 1
-place_of_kind kind.Char = 2
-place_of_kind kind.Str = 3
-place_of_kind kind.String = 4
-place_of_kind kind.U8 = 5
-place_of_kind kind.U16 = 6
-place_of_kind kind.U32 = 7
-place_of_kind kind.U64 = 8
-place_of_kind kind.U128 = 9
-place_of_kind kind.USize = 10
-place_of_kind kind.I8 = 11
-place_of_kind kind.I16 = 12
-place_of_kind kind.I32 = 13
-place_of_kind kind.I64 = 14
-place_of_kind kind.I128 = 15
-place_of_kind kind.ISize = 16
-
--- the same kind, and the same value
+-- the same kind, as its rank tells, and the same value
 abbrev pub scalar_same : Scalar → Scalar → Bool
-scalar_same x y = place_of_kind (scalar_kind x) == place_of_kind (scalar_kind y) && same_value x y
+scalar_same x y = rank_of (scalar_kind x) == rank_of (scalar_kind y) && same_value x y
 
--- each kind writes its value by the write of its type, a truth value as a byte, a character as four bytes, and a String its bytes and then the byte 255
+-- the writes of the scalar of a kind with a number and bytes: a truth value is written as a byte, a character as four bytes, a String as its bytes and the byte 255, and a whole number as one of its type
+abbrev pub writes_of : ScalarType → ℤ → List ℕ → List HashWrite
+writes_of kind.Bool z text = number kind.U8 z ∷ []
+writes_of kind.Char z text = number kind.U32 z ∷ []
+writes_of kind.String z text = bytes text ∷ number kind.U8 (pos 255) ∷ []
+writes_of k z text = number k z ∷ []
+
+-- the writes of a scalar
 abbrev pub scalar_writes : Scalar → List HashWrite
-scalar_writes (scalar.Bool b) = of_u8 (cond b 1 0) ∷ []
-scalar_writes (scalar.Char c) = of_u32 c ∷ []
-scalar_writes (scalar.String text) = bytes text ∷ of_u8 255 ∷ []
-scalar_writes (scalar.U8 x) = of_u8 x ∷ []
-scalar_writes (scalar.U16 x) = of_u16 x ∷ []
-scalar_writes (scalar.U32 x) = of_u32 x ∷ []
-scalar_writes (scalar.U64 x) = of_u64 x ∷ []
-scalar_writes (scalar.U128 x) = of_u128 x ∷ []
-scalar_writes (scalar.USize x) = of_usize x ∷ []
-scalar_writes (scalar.I8 x) = of_i8 x ∷ []
-scalar_writes (scalar.I16 x) = of_i16 x ∷ []
-scalar_writes (scalar.I32 x) = of_i32 x ∷ []
-scalar_writes (scalar.I64 x) = of_i64 x ∷ []
-scalar_writes (scalar.I128 x) = of_i128 x ∷ []
-scalar_writes (scalar.ISize x) = of_isize x ∷ []
+scalar_writes x = writes_of (scalar_kind x) (number_of x) (bytes_of x)
 
 -- true, not 0, not the character 0, not empty
 abbrev pub scalar_truthy : Scalar → Bool

@@ -1,20 +1,20 @@
--- What holds of the answers of the shipped leaf.
-use Rattle.std.proofs.Common.{◌≡◌, ◌↔◌, ◌∙◌, refl, sym, ℕ, ℤ, pos, nat_abs, Bool, true, false, not, ◌&&◌, cond, nat_eq, ap, List, [], ◌∷◌, Option, None, Some, IfSome, IsSome, option_and_then, option_map, true≢false}
+-- What holds of the results of the shipped leaf.
+use Rattle.std.proofs.Common.{◌≡◌, ◌↔◌, ◌∙◌, refl, sym, ℕ, ℤ, pos, Bool, true, false, not, ◌&&◌, cond, nat_eq, ap, List, Option, None, Some, IfSome, IsSome, option_and_then, option_map, true≢false}
 use Rattle.std.specs.Cmp.{IsEquivalence, IsPartialOrder, IsTotalOrder, Equal-is, and_equiv, both_tied, first_so, int_cmp_total, int_eq_equiv, on_equiv, on_total, po, second_so, signed_Decides, then_total}
 use Rattle.std.specs.Cmp.Lexicographic.{bytes_decides, nat_list_cmp_total, nat_list_eq_equiv, slice_cmp, texts_ties}
 use Rattle.std.specs.Ordering.{is_eq, nat_cmp, int_cmp, int_eq}
 use Rattle.std.specs.declared.cmp.Ordering.TheVariants.{Equal}
 use Rattle.std.specs.Str.{bytes_eq, chars, is_utf8}
 use Rattle.std.proofs.lemmas.Cmp.{nat_eq_equiv}
+use Rattle.facet_base.specs.ScalarType.{rank_of}
 use Rattle.facet_base.specs.declared.characteristic.Characteristic.TheVariants as characteristic
 use Rattle.facet_base.specs.declared.scalar_type.ScalarType.{ScalarType}
 use Rattle.facet_base.specs.declared.scalar_type.ScalarType.TheVariants as kind
 use Rattle.facet_leaf.specs.declared.conversion.Conversion.TheVariants.{Unsupported}
 use Rattle.facet_leaf.specs.declared.scalar.Scalar.{Scalar}
 use Rattle.facet_leaf.specs.declared.scalar.Scalar.TheVariants as scalar
-use Rattle.facet_leaf.specs.HashWrite.{HashWrite, bytes, of_u8, of_u16, of_u32, of_u64, of_u128, of_usize, of_i8, of_i16, of_i32, of_i64, of_i128, of_isize}
 use Rattle.facet_leaf.specs.LeafLaws.{IsConversion, IsStored, LeafLaws}
-use Rattle.facet_leaf.specs.Scalar.{bytes_of, conversion_of, has_negative, is_whole, number_of, place_of_kind, same_value, scalar_can, scalar_converted, scalar_default, scalar_kind, scalar_order, scalar_same, scalar_writes, signed_of, unsigned_of, whole_of}
+use Rattle.facet_leaf.specs.Scalar.{bytes_of, conversion_of, has_negative, is_whole, number_of, same_value, scalar_can, scalar_converted, scalar_default, scalar_kind, scalar_order, scalar_same, scalar_writes, signed_of, unsigned_of, whole_of, writes_of}
 use Rattle.facet_leaf.specs.ScalarModel.{scalar_model}
 use Rattle.facet_leaf.specs.ScalarTexts.{has_minus, number_written, only, scalar_parsed, scalar_parsed_bytes, truth_of}
 
@@ -44,19 +44,19 @@ value_equivalence = and_equiv (on_equiv number_of int_eq_equiv) (on_equiv bytes_
 
 -- equality is an equivalence
 equivalence : IsEquivalence scalar_same
-equivalence = and_equiv (on_equiv (λ x. place_of_kind (scalar_kind x)) nat_eq_equiv) value_equivalence
+equivalence = and_equiv (on_equiv (λ x. rank_of (scalar_kind x)) nat_eq_equiv) value_equivalence
 
 -- of two scalars of one kind equality looks at the value alone
 pub same_of_one_kind : (x y : Scalar) → scalar_kind x ≡ scalar_kind y → scalar_same x y ≡ same_value x y
 same_of_one_kind x y one_kind =
-    sym (λ i. nat_eq (place_of_kind (scalar_kind x)) (place_of_kind (one_kind i)) && same_value x y)
-    ∙ ap (λ test. test && same_value x y) (nat_eq_equiv.refl (place_of_kind (scalar_kind x)))
+    sym (λ i. nat_eq (rank_of (scalar_kind x)) (rank_of (one_kind i)) && same_value x y)
+    ∙ ap (λ test. test && same_value x y) (nat_eq_equiv.refl (rank_of (scalar_kind x)))
 
 -- the order is a total one
 total : IsTotalOrder scalar_order
 total = then_total (on_total number_of int_cmp_total) (on_total bytes_of nat_list_cmp_total)
 
--- two scalars have the same value where the order answers Equal
+-- two scalars have the same value where the order is Equal
 ties : (x y : Scalar) → same_value x y ≡ is_eq (scalar_order x y)
 ties x y = both_tied (int_eq (number_of x) (number_of y)) (bytes_eq (bytes_of x) (bytes_of y)) (int_cmp (number_of x) (number_of y)) (slice_cmp nat_cmp (bytes_of x) (bytes_of y)) refl (texts_ties (bytes_of x) (bytes_of y))
 
@@ -64,7 +64,7 @@ ties x y = both_tied (int_eq (number_of x) (number_of y)) (bytes_eq (bytes_of x)
 partial : IsPartialOrder same_value (λ x y. Some (scalar_order x y))
 partial = po total ties
 
--- of two scalars of one kind the order answers Equal exactly where they are equal
+-- of two scalars of one kind the order is Equal exactly where they are equal
 order_equal : (x y : Scalar) → scalar_kind x ≡ scalar_kind y → (scalar_order x y ≡ Equal) ↔ (scalar_same x y ≡ true)
 order_equal x y one_kind =
     let tied = same_of_one_kind x y one_kind ∙ ties x y in
@@ -76,38 +76,13 @@ partial_equal x y one_kind =
     let value = same_of_one_kind x y one_kind in
     (λ e. value ∙ (partial.matches_eq x y).1 e, λ e. (partial.matches_eq x y).0 (sym value ∙ e))
 
--- the writes of the scalar of a kind with a number and bytes
-writes_of : ScalarType → ℤ → List ℕ → List HashWrite
-writes_of kind.Bool z text = of_u8 (nat_abs z) ∷ []
-writes_of kind.Char z text = of_u32 (nat_abs z) ∷ []
-writes_of kind.String z text = bytes text ∷ of_u8 255 ∷ []
-writes_of kind.U8 z text = of_u8 (nat_abs z) ∷ []
-writes_of kind.U16 z text = of_u16 (nat_abs z) ∷ []
-writes_of kind.U32 z text = of_u32 (nat_abs z) ∷ []
-writes_of kind.U64 z text = of_u64 (nat_abs z) ∷ []
-writes_of kind.U128 z text = of_u128 (nat_abs z) ∷ []
-writes_of kind.USize z text = of_usize (nat_abs z) ∷ []
-writes_of kind.I8 z text = of_i8 z ∷ []
-writes_of kind.I16 z text = of_i16 z ∷ []
-writes_of kind.I32 z text = of_i32 z ∷ []
-writes_of kind.I64 z text = of_i64 z ∷ []
-writes_of kind.I128 z text = of_i128 z ∷ []
-writes_of kind.ISize z text = of_isize z ∷ []
-writes_of k z text = []
-
--- what a scalar writes follows from its kind, its number and its bytes
-writes_are : (x : Scalar) → scalar_writes x ≡ writes_of (scalar_kind x) (number_of x) (bytes_of x)
-unfolding writes_of
-writes_are (scalar.Bool _) = refl
-writes_are x = refl
-
 -- equal scalars of one kind write the same
 writes_same : (x y : Scalar) → scalar_kind x ≡ scalar_kind y → scalar_same x y ≡ true → scalar_writes x ≡ scalar_writes y
 writes_same x y one_kind equal =
     let same = sym (same_of_one_kind x y one_kind) ∙ equal in
     let numbers = (signed_Decides (number_of x) (number_of y)).0 (first_so (int_eq (number_of x) (number_of y)) (bytes_eq (bytes_of x) (bytes_of y)) same) in
     let texts = (bytes_decides (bytes_of x) (bytes_of y)).0 (second_so (int_eq (number_of x) (number_of y)) (bytes_eq (bytes_of x) (bytes_of y)) same) in
-    writes_are x ∙ (λ i. writes_of (one_kind i) (numbers i) (texts i)) ∙ sym (writes_are y)
+    λ i. writes_of (one_kind i) (numbers i) (texts i)
 
 -- what is made of a value that may be missing has the kind that each made one has
 mapped : {A : Type 0} (f : A → Scalar) (k : ScalarType) → ((a : A) → scalar_kind (f a) ≡ k) → (o : Option A) → IfSome (option_map f o) (λ x. scalar_kind x ≡ k)

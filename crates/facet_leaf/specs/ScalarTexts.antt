@@ -64,7 +64,7 @@ abbrev pub truth_text : Bool → List ℕ
 truth_text true = codes "true"
 truth_text false = codes "false"
 
--- the plain value
+-- the value alone
 abbrev pub scalar_display : Scalar → List ℕ
 scalar_display (scalar.Bool b) = truth_text b
 scalar_display (scalar.Char c) = encode_utf8 c

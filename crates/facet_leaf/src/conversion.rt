@@ -9,7 +9,7 @@ pub enum Conversion<L> {
     Failed(L),
 }
 
-/// There was no memory for a conversion. It hands the leaf back.
+/// A conversion ran out of memory. It holds the leaf that was given.
 #[derive(Drop)]
 pub struct NoRoom<L> {
     pub from: L,

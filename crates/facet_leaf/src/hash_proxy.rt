@@ -2,7 +2,7 @@ ghost use Rattle.std.specs.Prelude.{◌≡◌};
 
 use crate::hash_sink::HashSink;
 
-/// A hash sink that passes each call on to one that it was lent.
+/// A hash sink that passes each call on to the one that it borrows.
 #[derive(Drop)]
 pub struct HashProxy<'a, H> {
     pub hasher: &'a mut H,

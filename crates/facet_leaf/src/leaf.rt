@@ -12,11 +12,11 @@ use facet_base::{Characteristic, ParseError, ScalarType, Write};
 use std::alloc::{AllocError, Global};
 use std::cmp::Ordering;
 
-/// A stored scalar. One record says what each method answers, and all that stands on leaves knows them by
-/// that record alone. A method that goes with a capability or a hook asks that the kind has it, and one on two
-/// leaves that they are of one kind.
+/// A stored scalar. One record says what each method returns, and what stands on leaves knows them by that
+/// record alone. A method that goes with a capability or a hook requires that the kind has it, and one on two
+/// leaves requires that they are of one kind.
 pub trait Leaf: Sized + Drop {
-    /// What the methods answer.
+    /// What the methods return.
     ghost model: { LeafModel Self };
 
     /// Whether leaves of a kind have a capability.
@@ -103,7 +103,7 @@ pub trait Leaf: Sized + Drop {
         requires { IsTrue (model.hook (model.kind self.now) LeafHook.Invariants) }
         ensures { result ≡ model.holds self.now };
 
-    /// What a leaf becomes in a kind. Where memory is missing it hands the leaf back.
+    /// What a leaf becomes in a kind. Out of memory, it returns the leaf in the error.
     fn convert(
         alloc: Global,
         kind: ScalarType,
@@ -112,6 +112,6 @@ pub trait Leaf: Sized + Drop {
         requires { IsTrue (model.hook kind LeafHook.TryFrom) }
         ensures { MatchResult result (λ conversion. conversion ≡ model.converted kind from) (λ no_room. no_room.from ≡ from) };
 
-    /// What holds of those answers.
+    /// What holds of those results.
     ghost laws: { LeafLaws model };
 }

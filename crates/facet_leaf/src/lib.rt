@@ -1,4 +1,4 @@
-//! Leaves: the scalars that blocks store, each met by one record of what its methods answer.
+//! Leaves: the scalars that blocks store. One record says what the methods of a leaf type return.
 #![tactic(auto)]
 
 mod conversion;

@@ -1,3 +1,5 @@
+ghost use Rattle.std.specs.Prelude.{◌≡◌, IsTrue};
+
 use crate::conversion::Conversion;
 use crate::convert::convert_scalar;
 use crate::hook::LeafHook;
@@ -14,6 +16,14 @@ use std::test::Fail;
 
 mod hashing;
 mod laws_used;
+
+// Whether a leaf meets the invariants of its type, asked through the bound. No kind of `Scalar` has the hook.
+fn meets_its_invariants<L: Leaf>(leaf: &L) -> bool
+    requires { IsTrue (L.model.hook (L.model.kind leaf.now) LeafHook.Invariants) }
+    ensures { result ≡ L.model.holds leaf.now }
+{
+    leaf.invariants()
+}
 
 // The debug text of a leaf, and then its display text.
 fn texts_of(alloc: Global, leaf: &Scalar) -> Result<Vec<u8>, AllocError> {
