@@ -1,4 +1,4 @@
--- The operations of a list that ask for the type of its elements.
+-- The operations of a list that need the type of its elements.
 use Rattle.std.specs.Prelude.{Bool, false, Option}
 use Rattle.std.specs.Option.{option_map_or}
 use Rattle.facet_caps.specs.declared.list_type_ops.ListTypeOps.{ListTypeOps}

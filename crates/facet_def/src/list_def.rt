@@ -5,7 +5,7 @@ ghost use Rattle.facet_def.specs.TypeOperations.{offers};
 use facet_base::ShapeId;
 use facet_caps::{IterVTable, ListTypeOps, ListVTable};
 
-/// A list: its operations, those that ask for the type of its elements, if any, and the shape of its elements.
+/// A list: its operations, those that need the type of its elements, if any, and the shape of its elements.
 #[derive(Drop)]
 pub struct ListDef {
     pub vtable: ListVTable,
@@ -14,7 +14,7 @@ pub struct ListDef {
 }
 
 impl ListDef {
-    /// The list of these members, without operations that ask for the type of its elements.
+    /// The list of these members, without operations that need the type of its elements.
     pub fn new(vtable: ListVTable, t: ShapeId) -> ListDef
         ensures { result ≡ record { vtable = vtable; type_ops = None; t = t } }
     {
@@ -43,7 +43,7 @@ impl ListDef {
         self.t
     }
 
-    /// What its iterator offers, and none where no operation asks for the type of its elements.
+    /// What its iterator offers, and none where no operation needs the type of its elements.
     pub fn iter_vtable(&self) -> Option<&IterVTable>
         ensures { option_copied result ≡ option_map (λ ops. ops.iter_vtable) self.now.type_ops }
     {
