@@ -37,7 +37,8 @@ same_test false low unpadded short h u s = refl
 pub number_parsed : {E : Type 0} (s : List ℕ) (r : Result ℕ E) → ParsesUnsigned 32 10 s r → length s ≤ 9 → is_unpadded s ≡ true → get_or s 0 0 ≢ 43 → result_ok r ≡ number_of s
 number_parsed s r h short unpadded unsigned =
     let low : are_digits s ≡ true → nat_lt (number_after 0 s) (2 ^ 32) ≡ true = λ digits.
-    let small : number_after 0 s < 10 ^ 9 = digits_value_short decimal_digits s 9 (and_parts _ _ digits).1 short in
+    let parts : (nat_lt 0 (length s) ≡ true) × (all_ascii_digits s ≡ true) = and_parts _ _ digits in
+    let small : number_after 0 s < 10 ^ 9 = digits_value_short decimal_digits s 9 parts.1 short in
     let fits : number_after 0 s < 2 ^ 32 = omega arith in
     lt-ltb _ _ fits in
     unsigned_parsed 32 s r h ∙ ap (number_below (2 ^ 32)) (no_plus s unsigned)

@@ -8,7 +8,7 @@ use std::test::Fail;
 fn is_put(alloc: Global, line: &[u8], name: &str, shape: u32, text: &str) -> Result<bool, Fail> {
     match read_command(alloc, line)? {
         Some(Command::Put(a, s, t)) => Ok(a.as_str() == name && s.0 == shape && t.as_str() == text),
-        None => Ok(false),
+        _ => Ok(false),
     }
 }
 
