@@ -12,7 +12,7 @@ use Rattle.facet_session.specs.Script.{is_newline, lines, turns, turns_from, ans
 use Rattle.facet_session.specs.Session.{CarriesOut, IsNew}
 use Rattle.facet_script.specs.Progress.{HasAnswered}
 use Rattle.facet_script.proofs.Lines.{lines_parted}
-use Rattle.facet_script.proofs.ShownSessions.{shows_new}
+use Rattle.facet_session.proofs.ShownSessions.{shows_new}
 use Rattle.facet_script.proofs.Turns.{next_at, after_next, answers_next}
 
 turns_length : {L : Type 0} (m : LeafModel L) (state : State L) (ls : List (List ℕ)) → length (turns_from m state ls) ≡ length ls + 1

@@ -1,6 +1,5 @@
 mod AnsweredLines
 mod Lines
 mod ServedRuns
-mod ShownSessions
 mod Turns
 mod WrittenPieces

@@ -9,7 +9,7 @@ use Rattle.facet_leaf.specs.LeafModel.{LeafModel}
 use Rattle.facet_session.specs.Interpreter.{Turn, first_state}
 use Rattle.facet_session.specs.Script.{answer_line, after, answers}
 use Rattle.facet_session.specs.Session.{CarriesOut, IsNew, IsUnchanged}
-use Rattle.facet_session.proofs.Conserved.{conserved}
+use Rattle.facet_session.proofs.BalanceLemmas.{conserved}
 use Rattle.facet_script.specs.declared.report.Status.{Status}
 use Rattle.facet_script.specs.declared.report.Status.TheVariants.{Ok, NoMemory}
 use Rattle.facet_script.specs.declared.output.OutputError.{OutputError}
@@ -18,7 +18,7 @@ use Rattle.facet_script.specs.Output.{AppendsSome, AppendsPart, status_of}
 use Rattle.facet_script.specs.Run.{FitsKnown, Serves, Writes, Logs, last_dropped}
 use Rattle.facet_script.specs.Progress.{HasAnswered}
 use Rattle.facet_script.proofs.AnsweredLines.{turns_left, one_more_answered}
-use Rattle.facet_script.proofs.ShownSessions.{shows_same, shows_new}
+use Rattle.facet_session.proofs.ShownSessions.{shows_same, shows_new}
 use Rattle.facet_script.proofs.Turns.{after_next, answers_next, answers_before, dropped_last, dropped_none}
 
 -- an answer was not written whole

@@ -1,8 +1,10 @@
-mod Carried
-pub mod Conserved
-mod Dropping
-pub mod Ends
-mod Parsed
-mod Reading
-mod Shown
-mod Texts
+mod AnswerLines
+mod AnswerTexts
+pub mod BalanceLemmas
+mod CellValues
+mod DroppingCells
+mod InterpreterLaws
+mod PutLemmas
+pub mod ShownSessions
+mod TurnLaws
+mod TurnLemmas

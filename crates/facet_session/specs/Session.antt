@@ -8,7 +8,8 @@ use Rattle.facet_values.specs.Reading.{Reads}
 use Rattle.facet_session.specs.declared.session.Session.{Session}
 use Rattle.facet_session.specs.declared.session.Cell.{Cell}
 use Rattle.facet_session.specs.declared.session.Answer.{Answer}
-use Rattle.facet_session.specs.Interpreter.{Entry, State, Turn, text_of}
+use Rattle.facet_session.specs.State.{Entry, State}
+use Rattle.facet_session.specs.Turn.{Turn, text_of}
 
 module _ {L : Type 0} (m : LeafModel L) where
   -- a cell has the name and the shape of an entry, and its block, of the shape's size, reads from 0 as the entry's value

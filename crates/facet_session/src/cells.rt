@@ -1,24 +1,11 @@
-ghost use Rattle.std.specs.Prelude.{◌≡◌, ◌<◌, ◌≤◌, ◌+◌, ◌++◌, All, length, map, bytes_eq};
-ghost use Rattle.std.specs.List.{list_any};
+ghost use Rattle.std.specs.Prelude.{◌≡◌, ◌<◌, ◌≤◌, ◌+◌, ◌++◌, All, length};
 ghost use Rattle.std.specs.Option.{option_copied, option_to_list};
 ghost use Rattle.facet_session.specs.Stored.{stored_in, stored_in_all, IsFilled};
 
 use crate::session::Cell;
-use facet_base::{Many, Text};
+use facet_base::Many;
 use facet_block::{DropLog, Leaf, PtrConst, PtrMut};
 use facet_shapes::{Shapes, ValueKind};
-
-/// Whether a cell has this name.
-pub fn is_taken<L>(cells: &[Cell<L>], name: &Text) -> bool
-    ensures { result ≡ list_any (λ cell. bytes_eq cell.name name.now) cells.now }
-{
-    for cell in cells {
-        if cell.name.is_same(name) {
-            return true;
-        }
-    }
-    false
-}
 
 /// The leaf that a cell's value is, if it is one.
 pub fn leaf_in<'a, L: Leaf>(shapes: &Shapes<L>, cell: &'a Cell<L>) -> Option<&'a L>

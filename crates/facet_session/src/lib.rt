@@ -3,7 +3,10 @@
 #![tactic(auto)]
 
 mod cells;
+mod commands;
+mod conditions;
 mod laws;
+mod refusal;
 mod session;
 mod stepping;
 mod writing;
@@ -12,6 +15,6 @@ pub use facet_grammar::{
     Command, commands_are_spelled, commands_are_texts, forms_are_inverse, read_command,
     spellings_are_read,
 };
-pub use laws::{balance, nothing_held};
+pub use laws::{answers_are_one_line, balance, nothing_held};
 pub use session::{Answer, Cell, Session};
 pub use stepping::{finish, step};

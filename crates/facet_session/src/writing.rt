@@ -1,26 +1,15 @@
 ghost use Rattle.std.specs.Prelude.{◌≡◌, ◌++◌, ◌∷◌, [], ℕ, List, All, Bool, IfOk, OnOk, codes};
 ghost use Rattle.std.specs.Str.{IsUtf8};
-ghost use Rattle.facet_session.specs.Interpreter.{listed};
-ghost use Rattle.facet_session.specs.Stepping.{rest_listed};
+ghost use Rattle.facet_session.specs.Listing.{rest_listed};
 ghost use Rattle.facet_session.specs.Stored.{stored_in, stored_in_all, IsFilled};
+ghost use Rattle.facet_session.specs.Turn.{listed};
 
 use crate::cells::leaf_in;
-use crate::session::{Answer, Cell};
+use crate::session::Cell;
 use facet_base::Text;
 use facet_block::Leaf;
 use facet_shapes::Shapes;
 use std::alloc::{AllocError, Global};
-
-/// An answer of words alone.
-pub fn refuse(alloc: Global, words: &str) -> Result<Answer, AllocError>
-    ensures { IfOk result (λ answer. answer ≡ record { text = words.now; made = 0; dropped = 0 }) }
-{
-    Ok(Answer {
-        text: Text::new(alloc, words)?,
-        made: 0,
-        dropped: 0,
-    })
-}
 
 /// The text of an answer to a leaf that was made.
 pub fn text_of_made<L: Leaf>(alloc: Global, leaf: &L) -> Result<Text, AllocError>

@@ -1,7 +1,7 @@
 use Rattle.facet_session.specs.Script.{after}
 use Rattle.facet_session.specs.Interpreter.{last}
 use Rattle.facet_script.proofs.ServedRuns.{out_of_memory, ended, cut_short}
-use Rattle.facet_script.proofs.ShownSessions.{cells_gone}
+use Rattle.facet_session.proofs.ShownSessions.{cells_gone}
 use Rattle.facet_script.proofs.serving.serve.Goals as goal
 
 pub finish-requires : goal.finish-requires

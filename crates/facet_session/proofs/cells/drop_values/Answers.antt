@@ -1,7 +1,7 @@
 use Rattle.std.proofs.Common.{◌<◌, ◌∙◌, length, arith, length-set}
 use Rattle.facet_session.specs.Stored.{IsFilled}
 use Rattle.facet_base.proofs.Lists.{All_at, some_there}
-use Rattle.facet_session.proofs.Dropping.{same_at, same_behind, next_stored}
+use Rattle.facet_session.proofs.DroppingCells.{same_at, same_behind, next_stored}
 use Rattle.facet_session.proofs.cells.drop_values.Goals as goal
 use Rattle.facet_session.proofs.cells.drop_values.Goals.{in-Some, in_default}
 

@@ -1,4 +1,4 @@
-use Rattle.facet_session.proofs.Conserved.{conserved}
+use Rattle.facet_session.proofs.BalanceLemmas.{conserved}
 use Rattle.facet_session.proofs.laws.balance.Goals as goal
 
 pub returns : goal.returns

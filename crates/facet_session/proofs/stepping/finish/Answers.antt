@@ -1,8 +1,8 @@
 use Rattle.std.proofs.Common.{[], ◌∙◌, ◌++◌, All, ap, sym, subst, refl, length, codes}
-use Rattle.facet_session.specs.Interpreter.{listed}
 use Rattle.facet_session.specs.Session.{ShowEntries}
+use Rattle.facet_session.specs.Turn.{listed}
 use Rattle.facet_session.specs.Stored.{stored_in_all, IsFilled}
-use Rattle.facet_session.proofs.Shown.{cells_filled, stored-session}
+use Rattle.facet_session.proofs.ShownSessions.{cells_filled, stored_session}
 use Rattle.facet_session.proofs.stepping.finish.Goals as goal
 
 pub text_of_end-requires : goal.text_of_end-requires
@@ -18,7 +18,7 @@ returns-clause-turn g c state shown =
     let m = g.L.Leaf.model in
     let session = c.args.session.now in
     let empty = c.in_ok-make_room.ensures.leaves ∙ c.clear.ensures.leaves in
-    let stored = stored-session m session state shown in
+    let stored = stored_session m session state shown in
     let gone = c.drop_values.ensures ∙ ap (λ xs. xs ++ stored_in_all session.shapes session.cells.items) empty ∙ stored in
     record {
       text =

@@ -1,10 +1,10 @@
 use Rattle.std.proofs.Common.{refl}
 use Rattle.std.proofs.lemmas.Result.{IfOk-weaker}
-use Rattle.facet_session.proofs.Carried.{carries_next}
+use Rattle.facet_session.proofs.TurnLemmas.{next_carried}
 use Rattle.facet_session.proofs.stepping.step.Goals as goal
 
 pub returns-clause-turn : goal.returns-clause-turn
 returns-clause-turn g c =
     IfOk-weaker c.carry_out.result _ _
-    (λ answer carried. (carries_next g.L.Leaf.model c.args.session.now _ c.carry_out.new.session answer c.args.line.now _ refl refl c.in_ok-command.ensures carried).turn)
-    c.carry_out.ensures.ok
+    (λ answer. next_carried g.L.Leaf.model c.args.session.now _ c.carry_out.new.session answer c.args.line.now _ (record { registry = refl; cells = refl }) c.in_ok-command.ensures)
+    c.carry_out.ensures.turn

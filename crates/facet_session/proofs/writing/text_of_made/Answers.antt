@@ -1,7 +1,7 @@
 use Rattle.std.proofs.Common.{subst, sym}
 use Rattle.std.specs.Str.{IsUtf8}
 use Rattle.std.proofs.lemmas.Str.{IsUtf8-append, IsUtf8-nil}
-use Rattle.facet_session.proofs.Texts.{bracket_utf8}
+use Rattle.facet_session.proofs.AnswerTexts.{bracket_utf8}
 use Rattle.facet_session.proofs.writing.text_of_made.Goals as goal
 
 pub from_utf8-requires : goal.from_utf8-requires

@@ -103,10 +103,10 @@ module _ {L : Type 0} where
     no_parts (p ∷ ps) vs e reads = absurd (cc)
 
     -- a cell stores the leaves of the value that it reads as
-    pub stored-leaves : (s : ℕ) (block : Block L) (v : Value L) → Reads m registry (start_of s block) v → stored_by (kind_at registry s) (leaf_of (item_at block 0)) ≡ leaves v
+    pub stored_leaves : (s : ℕ) (block : Block L) (v : Value L) → Reads m registry (start_of s block) v → stored_by (kind_at registry s) (leaf_of (item_at block 0)) ≡ leaves v
     unfolding seen
-    stored-leaves s block (leaf x) reads = leaf_stored (kind_at registry s) (item_at block 0) x reads.1
-    stored-leaves s block (node form vs) reads =
+    stored_leaves s block (leaf x) reads = leaf_stored (kind_at registry s) (item_at block 0) x reads.1
+    stored_leaves s block (node form vs) reads =
         let stored = node_stored (kind_at registry s) (item_at block 0) form reads.0 reads.2 in
         stored.0 ∙ sym (no_parts reads.0 vs stored.1 reads.3)
 

@@ -3,21 +3,23 @@ use Rattle.std.proofs.Common.{◌≡◌, ℕ, List, [], ◌∷◌, ◌++◌, All
 use Rattle.std.specs.List.{list_any, AllByRecursion}
 use Rattle.std.proofs.lemmas.List.Elements.{All-from_recursion}
 use Rattle.facet_leaf.specs.LeafModel.{LeafModel}
+use Rattle.facet_shapes.specs.Prelude.{prelude}
 use Rattle.facet_shapes.specs.Registry.{Registry}
 use Rattle.facet_values.specs.Reading.{Reads}
 use Rattle.facet_session.specs.declared.session.Session.{Session}
 use Rattle.facet_session.specs.declared.session.Cell.{Cell}
-use Rattle.facet_session.specs.Interpreter.{Entry, State, leaves_of_entries}
-use Rattle.facet_session.specs.Session.{ShowsEntry, ShowEntries, Shows, IsReady}
+use Rattle.facet_session.specs.Interpreter.{last}
+use Rattle.facet_session.specs.State.{Entry, State, first_state, leaves_of_entries}
+use Rattle.facet_session.specs.Session.{ShowsEntry, ShowEntries, Shows, IsReady, IsNew, IsUnchanged}
 use Rattle.facet_session.specs.Stored.{stored_in_all, IsFilled}
-use Rattle.facet_session.proofs.Reading.{stored-leaves, filled_by}
+use Rattle.facet_session.proofs.CellValues.{stored_leaves, filled_by}
 
 module _ {L : Type 0} (m : LeafModel L) where
   -- a session with the same registry and cells shows the same states
-  pub shows_same : (s t : Session L) (state : State L) → t.shapes ≡ s.shapes → t.cells.items ≡ s.cells.items → Shows m s state → Shows m t state
-  shows_same s t state shapes cells shown = record {
-    registry = shapes ∙ shown.registry;
-    cells = subst (λ cs. ShowEntries m state.registry cs state.entries) (sym cells) shown.cells;
+  pub shows_same : (s t : Session L) (state : State L) → IsUnchanged s t → Shows m s state → Shows m t state
+  shows_same s t state same shown = record {
+    registry = same.registry ∙ shown.registry;
+    cells = subst (λ cs. ShowEntries m state.registry cs state.entries) (sym same.cells) shown.cells;
   }
 
   module _ (registry : Registry) where
@@ -28,14 +30,14 @@ module _ {L : Type 0} (m : LeafModel L) where
     show_more (c ∷ cs) [] cell entry shown one = absurd shown
     show_more (c ∷ cs) (e ∷ es) cell entry shown one = (shown.0, show_more cs es cell entry shown.1 one)
 
-    pub taken-shown : (cells : List (Cell L)) (entries : List (Entry L)) (name : List ℕ) → ShowEntries m registry cells entries
+    pub taken_shown : (cells : List (Cell L)) (entries : List (Entry L)) (name : List ℕ) → ShowEntries m registry cells entries
         → list_any (λ cell. bytes_eq cell.name name) cells ≡ list_any (λ entry. bytes_eq entry.name name) entries
-    taken-shown [] [] name shown = refl
-    taken-shown [] (e ∷ es) name shown = absurd shown
-    taken-shown (c ∷ cs) [] name shown = absurd shown
-    taken-shown (c ∷ cs) (e ∷ es) name shown =
+    taken_shown [] [] name shown = refl
+    taken_shown [] (e ∷ es) name shown = absurd shown
+    taken_shown (c ∷ cs) [] name shown = absurd shown
+    taken_shown (c ∷ cs) (e ∷ es) name shown =
         let first = ap (λ n. bytes_eq n name) shown.0.name in
-        let rest = taken-shown cs es name shown.1 in
+        let rest = taken_shown cs es name shown.1 in
         cc
 
     at_start : (cell : Cell L) (entry : Entry L) → ShowsEntry m registry cell entry → Reads m registry (record { shape = cell.shape.0; block = cell.block; offset = 0 }) entry.value
@@ -49,13 +51,13 @@ module _ {L : Type 0} (m : LeafModel L) where
     all_filled (c ∷ cs) (e ∷ es) shown = (filled_by m registry c e.value (at_start c e shown.0), all_filled cs es shown.1)
 
     -- what the cells store are the leaves of the values
-    pub stored-shown : (cells : List (Cell L)) (entries : List (Entry L)) → ShowEntries m registry cells entries → stored_in_all registry cells ≡ leaves_of_entries entries
-    stored-shown [] [] shown = refl
-    stored-shown [] (e ∷ es) shown = absurd shown
-    stored-shown (c ∷ cs) [] shown = absurd shown
-    stored-shown (c ∷ cs) (e ∷ es) shown =
-        let first = stored-leaves m registry c.shape.0 c.block e.value (at_start c e shown.0) in
-        let rest = stored-shown cs es shown.1 in
+    pub stored_shown : (cells : List (Cell L)) (entries : List (Entry L)) → ShowEntries m registry cells entries → stored_in_all registry cells ≡ leaves_of_entries entries
+    stored_shown [] [] shown = refl
+    stored_shown [] (e ∷ es) shown = absurd shown
+    stored_shown (c ∷ cs) [] shown = absurd shown
+    stored_shown (c ∷ cs) (e ∷ es) shown =
+        let first = stored_leaves m registry c.shape.0 c.block e.value (at_start c e shown.0) in
+        let rest = stored_shown cs es shown.1 in
         cc
 
   -- the cells of a session that shows a state are filled
@@ -65,6 +67,21 @@ module _ {L : Type 0} (m : LeafModel L) where
       subst (λ r. All (IsFilled r) session.cells.items) (sym ready.shown.registry) (All-from_recursion _ _ all)
 
   -- and store the leaves of its entries
-  pub stored-session : (session : Session L) (state : State L) → Shows m session state → stored_in_all session.shapes session.cells.items ≡ leaves_of_entries state.entries
-  stored-session session state shown =
-      ap (λ r. stored_in_all r session.cells.items) shown.registry ∙ stored-shown state.registry session.cells.items state.entries shown.cells
+  pub stored_session : (session : Session L) (state : State L) → Shows m session state → stored_in_all session.shapes session.cells.items ≡ leaves_of_entries state.entries
+  stored_session session state shown =
+      ap (λ r. stored_in_all r session.cells.items) shown.registry ∙ stored_shown state.registry session.cells.items state.entries shown.cells
+
+  -- a new session shows the first state
+  pub shows_new : (s : Session L) → IsNew m s → Shows m s (first_state m)
+  shows_new s new = record {
+    registry = new.registry;
+    cells = subst (λ cells. ShowEntries m (prelude m) cells []) (sym new.cells) tt;
+  }
+
+  no_cells : (registry : Registry) (cells : List (Cell L)) → ShowEntries m registry cells [] → cells ≡ []
+  no_cells registry [] shown = refl
+  no_cells registry (cell ∷ cells) shown = absurd shown
+
+  -- a session that shows no entry has no cell
+  pub cells_gone : (s : Session L) (state : State L) → Shows m s (last state).state → s.cells.items ≡ []
+  cells_gone s state shown = no_cells state.registry s.cells.items shown.cells

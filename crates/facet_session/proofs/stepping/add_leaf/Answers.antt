@@ -1,8 +1,0 @@
-use Rattle.std.proofs.Common.{refl}
-use Rattle.facet_session.proofs.Carried.{carries_leaf}
-use Rattle.facet_session.proofs.stepping.add_leaf.Goals as goal
-
-pub returns-clause-ok : goal.returns-clause-ok
-returns-clause-ok g c =
-    carries_leaf g.L.Leaf.model c.args.session.now _ _ (record { name = c.args.name; shape = c.args.shape; block = c.in_ok-block.block }) c.args.leaf
-    c.requires.kind c.requires.room c.in_ok-block.ensures refl c.in_ok-push.ensures.ok c.requires.empty c.in_ok-text.ensures refl refl

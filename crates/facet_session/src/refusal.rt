@@ -1,0 +1,50 @@
+ghost use Rattle.std.specs.Prelude.{◌≡◌, IfOk};
+ghost use Rattle.facet_session.specs.Refusal.{words_of};
+
+use crate::session::Answer;
+use facet_base::Text;
+use std::alloc::{AllocError, Global};
+
+/// Why a command is refused.
+#[derive(Clone, Copy)]
+pub enum Refusal {
+    /// The line is not in the grammar, or not UTF-8.
+    Syntax,
+    /// No sealed shape has the id.
+    NoSuchShape,
+    /// The new name is in use.
+    Taken,
+    /// The command does not serve the kind of the shape.
+    WrongShape,
+    /// The text is no value of the shape.
+    BadText,
+    /// The record of the shape lacks what the command asks for.
+    Unsupported,
+}
+
+impl Refusal {
+    // The words of the answer.
+    fn words(self) -> &'static str
+        ensures { result.now ≡ words_of self }
+    {
+        match self {
+            Refusal::Syntax => "syntax",
+            Refusal::NoSuchShape => "no such shape",
+            Refusal::Taken => "taken",
+            Refusal::WrongShape => "wrong shape",
+            Refusal::BadText => "bad text",
+            Refusal::Unsupported => "unsupported",
+        }
+    }
+}
+
+/// The answer to a refused command: the words alone.
+pub fn refuse(alloc: Global, refusal: Refusal) -> Result<Answer, AllocError>
+    ensures { IfOk result (λ answer. answer ≡ record { text = words_of refusal; made = 0; dropped = 0 }) }
+{
+    Ok(Answer {
+        text: Text::new(alloc, refusal.words())?,
+        made: 0,
+        dropped: 0,
+    })
+}
