@@ -93,6 +93,7 @@ limited_below k n true true false h = refl
 limited_below k n true false true h = sym (too_small_written k n (grind (arith, nat_tests)))
 limited_below k n true false false h = refl
 
+-- of a text without a minus the code and the definition read the same number
 without : (k : ScalarType) (text : List ℕ) → has_minus text ≡ false → option_and_then (λ n. whole_of k (pos n)) (unsigned_below (2 ^ 128) text) ≡ whole_parsed k text
 without k [] h = refl
 without k (b ∷ text) h =
@@ -100,6 +101,7 @@ without k (b ∷ text) h =
     let same = limited k (number_after 0 digits) (are_digits digits) (nat_lt (number_after 0 digits) (2 ^ 128)) refl in
     rw h same
 
+-- and so they do of a text with one
 behind : (k : ScalarType) (text : List ℕ) → has_minus text ≡ true → option_and_then (λ z. cond (has_negative k) (whole_of k z) None) (signed_in 127 text) ≡ whole_parsed k text
 behind k [] h = cc
 behind k (b ∷ text) h =
@@ -131,6 +133,7 @@ pub passed : {E : Type 0} (text : List ℕ) (x : ℤ) (r : Result ℤ E) → Som
 passed text x (Ok y) e h = let same : x ≡ y = cc in rw same (to_z-of_z w128 y (subst (SFits w128) (sym h.1) h.0.1))
 passed text x (Err f) e h = cc
 
+-- an i128 is -1 - n where n is below 2 ^ 127
 complement_tested : (k : ScalarType) (n : ℕ) (z : ℤ) (small : Bool) → nat_lt n (2 ^ 127) ≡ small → Some z ≡ cond small (Some (negsuc n)) None
     → cond (has_negative k) (whole_of k (to_z w128 (of_z w128 z))) None ≡ whole_of k (negsuc n)
 complement_tested k n z true h e =
@@ -140,6 +143,7 @@ complement_tested k n z true h e =
     ∙ ap (λ y. cond (has_negative k) (whole_of k y) None) (to_z-of_z w128 (negsuc n) (record { sfits = fits })) ∙ below_zero k n
 complement_tested k n z false h e = cc
 
+-- where there is no such i128, no kind has the number
 refused_tested : (k : ScalarType) (n : ℕ) (small : Bool) → nat_lt n (2 ^ 127) ≡ small → None ≡ cond small (Some (negsuc n)) None → None ≡ whole_of k (negsuc n)
 refused_tested k n true h e = cc
 refused_tested k n false h e = sym (too_small k n (grind (arith, nat_tests)))
@@ -149,6 +153,7 @@ pub complement_passed : (k : ScalarType) (n : ℕ) (z : ℤ) → Some z ≡ sign
     → cond (has_negative k) (whole_of k (to_z w128 (of_z w128 z))) None ≡ whole_of k (negsuc n)
 complement_passed k n z e = complement_tested k n z (nat_lt n (2 ^ 127)) refl e
 
+-- the same where an i128 has no such number
 pub complement_refused : (k : ScalarType) (n : ℕ) → None ≡ signed_of 127 (negsuc n) → None ≡ whole_of k (negsuc n)
 complement_refused k n e = refused_tested k n (nat_lt n (2 ^ 127)) refl e
 
