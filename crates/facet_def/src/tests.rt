@@ -174,6 +174,12 @@ fn sequence_of(def: &Def) -> Option<(ShapeId, Option<usize>)> {
     }
 }
 
+// Both of the definition of the case at an index.
+fn named(case: usize) -> ([Option<ShapeId>; 3], Option<(ShapeId, Option<usize>)>) {
+    let def = definition(case);
+    (shapes_of(&def), sequence_of(&def))
+}
+
 #[test]
 fn a_definition_names_its_shapes_and_its_sequence(rt: HostRuntime) {
     let one = [Some(ShapeId(3)), None, None];
@@ -192,9 +198,7 @@ fn a_definition_names_its_shapes_and_its_sequence(rt: HostRuntime) {
         (10, three, None),
         (11, [None; 3], None),
     ] {
-        let def = definition(case);
-        let found = (shapes_of(&def), sequence_of(&def));
-        assert_eq!(rt; found, (shapes, sequence), "case {case}");
+        assert_eq!(rt; named(case), (shapes, sequence), "case {case}");
     }
 }
 
