@@ -1,5 +1,5 @@
 -- The laws of turns hold of each step of the interpreter.
-use Rattle.std.proofs.Common.{◌≡◌, ℕ, List, codes, Option, Some, None, refl, arith}
+use Rattle.std.proofs.Common.{ℕ, List, codes, Option, Some, None, refl, arith}
 use Rattle.facet_leaf.specs.LeafModel.{LeafModel}
 use Rattle.facet_grammar.specs.declared.command.Command.{Command}
 use Rattle.facet_grammar.specs.declared.command.Command.TheVariants.{Put}

@@ -21,7 +21,9 @@ pub fn nothing_held<L: Leaf>()
 /// Where no debug text has a newline, the answer to every line and to the end is one line, and the lines of a script's
 /// answers are these answers.
 pub fn answers_are_one_line<L: Leaf>()
-    ensures line { HasOneLineDebug L.model → (state : State L) (line : List ℕ) → IsOneLine (text_of L.model (next L.model state line)) }
+    ensures line { HasOneLineDebug L.model → (state : State L) (line : List ℕ)
+        → IsOneLine (text_of L.model (next L.model state line)) }
     ensures end { HasOneLineDebug L.model → (state : State L) → IsOneLine (text_of L.model (last state)) }
-    ensures script { HasOneLineDebug L.model → (script : List ℕ) (k : ℕ) → lines (answers L.model script k) ≡ map (text_of L.model) (take k (turns L.model script)) }
+    ensures script { HasOneLineDebug L.model → (script : List ℕ) (k : ℕ)
+        → lines (answers L.model script k) ≡ map (text_of L.model) (take k (turns L.model script)) }
 {}

@@ -1,4 +1,4 @@
-ghost use Rattle.std.specs.Prelude.{◌≡◌, ◌<◌, [], Some, IfOk, IfSome, OnOk, OnErr, IsTrue, bytes_eq};
+ghost use Rattle.std.specs.Prelude.{◌≡◌, ◌<◌, [], Some, IfOk, OnOk, OnErr, IsTrue, bytes_eq};
 ghost use Rattle.std.specs.List.{list_any};
 ghost use Rattle.facet_shapes.specs.Registry.{kind_at, size_at, size_of_layout, offers};
 ghost use Rattle.facet_shapes.specs.WellFormed.{IsRegistry};
@@ -44,7 +44,8 @@ pub fn put<L: Leaf>(
 
 // Why the command is refused before its text is parsed, if it is.
 fn refusal_of<L: Leaf>(session: &Session<L>, name: &Text, shape: ShapeId) -> Option<Refusal>
-    ensures first { result ≡ first_refusal (conditions session.now.shapes (list_any (λ cell. bytes_eq cell.name name.now) session.now.cells.items) shape.0) }
+    ensures first { result ≡ first_refusal (conditions session.now.shapes
+        (list_any (λ cell. bytes_eq cell.name name.now) session.now.cells.items) shape.0) }
     ensures registry { IsRegistry L.model session.now.shapes }
 {
     if is_unsealed(&session.shapes, shape) {
