@@ -1,73 +1,25 @@
--- What a block with a leaf at its start reads as, and what a cell stores that reads as a value.
-use Rattle.std.proofs.Common.{◌≡◌, ℕ, zero, suc, ◌+◌, ◌<◌, ◌≤◌, ◌⊎◌, List, [], ◌∷◌, length, slice_get, Option, None, Some, All, refl, sym, ap, ◌∙◌, subst, arith, zero-add}
-use Rattle.std.proofs.lemmas.List.Elements.{All-head}
+-- What a cell stores that reads as a value.
+use Rattle.std.proofs.Common.{◌≡◌, ℕ, zero, suc, ◌<◌, List, [], ◌∷◌, length, slice_get, Option, None, Some, All, refl, sym, ap, ◌∙◌, arith}
 use Rattle.facet_base.specs.declared.scalar_type.ScalarType.{ScalarType}
 use Rattle.facet_leaf.specs.LeafModel.{LeafModel}
 use Rattle.facet_block.specs.declared.block.Item.{Item, Leaf, Tag, Sequence}
 use Rattle.facet_block.specs.declared.block.Block.{Block}
-use Rattle.facet_block.specs.Block.{item_at, item_kind, size_of, leaf_of, empty_block, with_item}
+use Rattle.facet_block.specs.Block.{item_at, item_kind, leaf_of}
 use Rattle.facet_block.specs.declared.block.ItemKind.TheVariants as item
-use Rattle.facet_block.proofs.Ranges.{size_empty, item_empty, size_with_item, item_there, item_elsewhere}
-use Rattle.facet_block.specs.Span.{IsBeside}
 use Rattle.facet_shape.specs.declared.shape.Shape.{Shape}
-use Rattle.facet_shapes.specs.Registry.{Registry, kind_of_found, kind_at, size_at}
+use Rattle.facet_shapes.specs.Registry.{Registry, kind_of_found, kind_at}
 use Rattle.facet_shapes.specs.declared.value_kind.ValueKind.{ValueKind}
 use Rattle.facet_shapes.specs.declared.value_kind.ValueKind.TheVariants as kind
 use Rattle.facet_values.specs.declared.form.Form.{Form}
-use Rattle.facet_values.specs.Place.{Place}
+use Rattle.facet_values.proofs.Leaves.{of_leaf}
+use Rattle.facet_values.specs.Place.{Place, start_of}
 use Rattle.facet_values.specs.Seen.{no_value, a_leaf, a_node, seen_leaf, seen_kind, seen}
-use Rattle.facet_values.specs.Reading.{own_span, spans_of_kind, IsAlone, IsWhole, Reads, ReadAll}
+use Rattle.facet_values.specs.Reading.{Reads, ReadAll}
 use Rattle.facet_values.specs.Value.{Value, Values, leaf, node, none, more, leaves, leaves_of_parts}
 use Rattle.facet_session.specs.declared.session.Cell.{Cell}
 use Rattle.facet_session.specs.Stored.{stored_by, IsFilled}
 
--- the block of a size with a leaf at its start
-abbrev pub leaf_block : {L : Type 0} → ℕ → L → Block L
-leaf_block size x = with_item (empty_block size) 0 (Some (Leaf x))
-
--- the start of a block, read by a shape
-abbrev start_of : {L : Type 0} → ℕ → Block L → Place L
-start_of s block = record { shape = s; block = block; offset = 0 }
-
-module _ {L : Type 0} (x : L) where
-  first_item : (size : ℕ) → 0 < size → item_at (leaf_block size x) 0 ≡ Some (Leaf x)
-  first_item size some = item_there (empty_block size) 0 (Some (Leaf x)) (omega (arith, size_empty L size))
-
-  other_items : (size i : ℕ) → 0 < i → item_at (leaf_block size x) i ≡ None
-  other_items size i some = item_elsewhere (empty_block size) 0 (Some (Leaf x)) i (omega arith) ∙ item_empty L size i
-
-  size_kept : (size : ℕ) → size_of (leaf_block size x) ≡ size
-  size_kept size = size_with_item (empty_block size) 0 (Some (Leaf x)) ∙ size_empty L size
-
-behind_first : (i : ℕ) → (i < 0) ⊎ (0 + 1 ≤ i) → 0 < i
-behind_first i beside = omega arith
-
-module _ {L : Type 0} (m : LeafModel L) (registry : Registry) (s : ℕ) (k : ScalarType) (x : L) (of : kind_at registry s ≡ kind.Leaf k) (same : m.kind x ≡ k) (some : 0 < size_at registry s) where
-  alone : IsAlone (size_at registry s) (start_of s (leaf_block (size_at registry s) x)) (spans_of_kind (kind_at registry s))
-  alone i below beside =
-      let first = All-head (IsBeside i) own_span [] (subst (λ f. All (IsBeside i) (spans_of_kind f)) of beside) in
-      rw zero-add (other_items x (size_at registry s) i (behind_first i first))
-
-  whole : IsWhole m registry (start_of s (leaf_block (size_at registry s) x))
-  whole = record {
-    inside = omega (arith, size_kept x (size_at registry s));
-    alone = alone;
-    item = rw (of, first_item x (size_at registry s) some) same;
-  }
-
-  -- it reads as the leaf
-  pub reads_leaf : Reads m registry (start_of s (leaf_block (size_at registry s) x)) (leaf x)
-  unfolding seen
-  reads_leaf = (whole, rw (of, first_item x (size_at registry s) some) refl)
-
-  pub leaf_block_size : size_of (leaf_block (size_at registry s) x) ≡ size_at registry s
-  leaf_block_size = size_kept x (size_at registry s)
-
 module _ {L : Type 0} where
-  of_leaf : (found : Option L) (x : L) → seen_leaf found ≡ a_leaf x → found ≡ Some x
-  of_leaf None x e = absurd (cc)
-  of_leaf (Some y) x e = let same : y ≡ x = cc in ap Some same
-
   not_node : (found : Option L) (form : Form) (parts : List (Place L)) → seen_leaf found ≡ a_node form parts → ⊥
   not_node None form parts e = cc
   not_node (Some y) form parts e = cc

@@ -11,6 +11,8 @@ use Rattle.facet_block.specs.Block.{size_of}
 use Rattle.facet_shapes.specs.Registry.{Registry, kind_at, size_at, offers}
 use Rattle.facet_shapes.specs.declared.value_kind.ValueKind.{ValueKind}
 use Rattle.facet_shapes.specs.declared.value_kind.ValueKind.TheVariants as kind
+use Rattle.facet_values.proofs.Leaves.{leaf_block_size, reads_leaf}
+use Rattle.facet_values.specs.Place.{leaf_block}
 use Rattle.facet_values.specs.Reading.{Reads}
 use Rattle.facet_values.specs.Value.{leaf, leaves}
 use Rattle.facet_session.specs.declared.session.Session.{Session}
@@ -23,7 +25,6 @@ use Rattle.facet_session.specs.Session.{ShowsEntry, ShowEntries, Shows, CarriesO
 use Rattle.facet_session.specs.State.{Entry, State, leaves_of_entries}
 use Rattle.facet_session.specs.Turn.{refused, refused_or, listed}
 use Rattle.facet_session.specs.commands.Put.{conditions, parsed_as, add_parsed, put, is_scalar}
-use Rattle.facet_session.proofs.CellValues.{leaf_block, reads_leaf, leaf_block_size}
 use Rattle.facet_session.proofs.ShownSessions.{show_more, taken_shown}
 use Rattle.facet_session.proofs.TurnLaws.{TurnLaws, count_more, one_line, refused_laws, refused_or_laws}
 use Rattle.facet_session.proofs.TurnLemmas.{none_holds}
@@ -73,8 +74,8 @@ module _ {L : Type 0} (m : LeafModel L) where
       record {
         name = refl;
         shape = refl;
-        size = ap size_of block ∙ leaf_block_size m registry s (m.kind x) x of refl some;
-        reads = subst (λ b. Reads m registry (record { shape = s; block = b; offset = 0 }) (leaf x)) (sym block) (reads_leaf m registry s (m.kind x) x of refl some);
+        size = ap size_of block ∙ leaf_block_size x (size_at registry s);
+        reads = subst (λ b. Reads m registry (record { shape = s; block = b; offset = 0 }) (leaf x)) (sym block) (reads_leaf m registry s x of some);
       }
 
   -- a session with such a cell more carries out a `put` of the leaf

@@ -1,8 +1,9 @@
 -- What a builder of shapes begins with, and what it builds.
-use Rattle.std.specs.Prelude.{◌≡◌, ◌==◌, ◌||◌, ℕ, Bool, List, [], Option, None, Some, if◌then◌else◌, length, nat_lt, option_map}
+use Rattle.std.specs.Prelude.{◌==◌, ◌||◌, ℕ, Bool, List, [], Option, None, Some, if◌then◌else◌, length, nat_lt, option_map}
 use Rattle.std.specs.Int.RustNames.{bit_or}
 use Rattle.facet_base.specs.DeclId.{extern_text}
 use Rattle.facet_base.specs.Fnv.{fnv, fnv_start}
+use Rattle.facet_base.specs.Kept.{of_items}
 use Rattle.facet_base.specs.declared.layout.ShapeLayout.{ShapeLayout}
 use Rattle.facet_base.specs.declared.variance.Variance.TheVariants as variance
 use Rattle.facet_caps.specs.Empty.{empty_direct}
@@ -15,39 +16,41 @@ use Rattle.facet_desc.specs.declared.ty.Ty.{Ty}
 use Rattle.facet_desc.specs.declared.ty.Ty.TheVariants as ty
 use Rattle.facet_shape.specs.declared.shape.Shape.{Shape}
 
--- the shape of a type of that identifier and layout, of which nothing else is set
-pub record IsPlainShape (s : Shape) (its_identifier : List ℕ) (its_layout : ShapeLayout) : Type 0 where
-  pub id : s.id.0 ≡ 0
-  pub decl_id : s.decl_id.0 ≡ 0
-  pub layout : s.layout ≡ its_layout
-  pub vtable : s.vtable ≡ erased.Direct empty_direct
-  pub type_ops : s.type_ops ≡ None
-  pub marker_traits : s.marker_traits.bits ≡ 0
-  pub ty : s.ty ≡ ty.Undefined
-  pub def : s.def ≡ def.Undefined
-  pub type_identifier : s.type_identifier ≡ its_identifier
-  pub module_path : s.module_path ≡ None
-  pub source_file : s.source_file ≡ None
-  pub source_line : s.source_line ≡ None
-  pub source_column : s.source_column ≡ None
-  pub type_params : s.type_params.items ≡ []
-  pub const_params : s.const_params.items ≡ []
-  pub doc : s.doc.items ≡ []
-  pub attributes : s.attributes.items ≡ []
-  pub type_tag : s.type_tag ≡ None
-  pub inner : s.inner ≡ None
-  pub builder_shape : s.builder_shape ≡ None
-  pub type_name : s.type_name ≡ None
-  pub proxy : s.proxy ≡ None
-  pub format_proxies : s.format_proxies.items ≡ []
-  pub opaque_adapter : s.opaque_adapter ≡ None
-  pub variance : s.variance.base ≡ variance.Bivariant
-  pub variance_deps : s.variance.deps.items ≡ []
-  pub flags : s.flags.bits ≡ 0
-  pub tag : s.tag ≡ None
-  pub content : s.content ≡ None
-  pub rename : s.rename ≡ None
-  pub scalar : s.scalar ≡ None
+-- the shape of a type of an identifier and a layout, of which nothing else is set
+unfoldable pub fresh_shape : List ℕ → ShapeLayout → Shape
+fresh_shape identifier layout =
+    record {
+      id = record { 0 = 0 };
+      decl_id = record { 0 = 0 };
+      layout = layout;
+      vtable = erased.Direct empty_direct;
+      type_ops = None;
+      marker_traits = record { bits = 0 };
+      ty = ty.Undefined;
+      def = def.Undefined;
+      type_identifier = identifier;
+      module_path = None;
+      source_file = None;
+      source_line = None;
+      source_column = None;
+      type_params = of_items [];
+      const_params = of_items [];
+      doc = of_items [];
+      attributes = of_items [];
+      type_tag = None;
+      inner = None;
+      builder_shape = None;
+      type_name = None;
+      proxy = None;
+      format_proxies = of_items [];
+      opaque_adapter = None;
+      variance = record { base = variance.Bivariant; deps = of_items [] };
+      flags = record { bits = 0 };
+      tag = None;
+      content = None;
+      rename = None;
+      scalar = None;
+    }
 
 -- the shape with a flag beside those that it has
 abbrev pub with_flag : ℕ → Shape → Shape

@@ -1,5 +1,7 @@
 ghost use Rattle.facet_base.specs.declared.layout.ShapeLayout.TheVariants.{Sized, Unsized};
-ghost use Rattle.facet_shape.specs.Built.{IsPlainShape};
+ghost use Rattle.std.specs.Prelude.{◌≡◌};
+ghost use Rattle.facet_shape.specs.Built.{fresh_shape};
+ghost use Rattle.facet_shape.specs.WithoutSpare.{shape_without_spare};
 
 use crate::shape_builder::ShapeBuilder;
 use facet_base::{
@@ -53,7 +55,7 @@ impl Shape {
     /// Begins the shape of a type of this identifier whose values have this layout, with nothing else set.
     /// It takes no memory.
     pub fn builder_for_sized(alloc: Global, type_identifier: Text, layout: Layout) -> ShapeBuilder
-        ensures { IsPlainShape result type_identifier (Sized layout) }
+        ensures { shape_without_spare result ≡ fresh_shape type_identifier (Sized layout) }
     {
         ShapeBuilder::for_sized(alloc, type_identifier, layout)
     }
@@ -61,7 +63,7 @@ impl Shape {
     /// Begins the shape of a type of this identifier whose values share no layout, with nothing else set.
     /// It takes no memory.
     pub fn builder_for_unsized(alloc: Global, type_identifier: Text) -> ShapeBuilder
-        ensures { IsPlainShape result type_identifier Unsized }
+        ensures { shape_without_spare result ≡ fresh_shape type_identifier Unsized }
     {
         ShapeBuilder::for_unsized(alloc, type_identifier)
     }

@@ -1,7 +1,8 @@
 ghost use Rattle.std.specs.Prelude.{◌≡◌, option_map};
 ghost use Rattle.std.specs.Result.{result_ok};
 ghost use Rattle.facet_base.specs.declared.layout.ShapeLayout.TheVariants.{Sized, Unsized};
-ghost use Rattle.facet_shape.specs.Built.{IsPlainShape, built, declared_id, has_parameters, hashed_id, with_resolved_type};
+ghost use Rattle.facet_shape.specs.Built.{built, declared_id, fresh_shape as fresh, has_parameters, hashed_id, with_resolved_type};
+ghost use Rattle.facet_shape.specs.WithoutSpare.{shape_without_spare};
 
 mod flags;
 mod members;
@@ -36,20 +37,20 @@ impl ShapeBuilder {
     /// The shape of a type of this identifier whose values have this layout, with nothing else set. It takes
     /// no memory.
     pub fn for_sized(alloc: Global, type_identifier: Text, layout: Layout) -> ShapeBuilder
-        ensures { IsPlainShape result type_identifier (Sized layout) }
+        ensures { shape_without_spare result ≡ fresh type_identifier (Sized layout) }
     {
         ShapeBuilder {
-            shape: plain_shape(alloc, type_identifier, ShapeLayout::Sized(layout)),
+            shape: fresh_shape(alloc, type_identifier, ShapeLayout::Sized(layout)),
         }
     }
 
     /// The shape of a type of this identifier whose values share no layout, with nothing else set. It takes no
     /// memory.
     pub fn for_unsized(alloc: Global, type_identifier: Text) -> ShapeBuilder
-        ensures { IsPlainShape result type_identifier Unsized }
+        ensures { shape_without_spare result ≡ fresh type_identifier Unsized }
     {
         ShapeBuilder {
-            shape: plain_shape(alloc, type_identifier, UNSIZED_LAYOUT),
+            shape: fresh_shape(alloc, type_identifier, UNSIZED_LAYOUT),
         }
     }
 
@@ -71,8 +72,9 @@ impl ShapeBuilder {
 }
 
 // The shape of this identifier and layout, with nothing else set.
-fn plain_shape(alloc: Global, type_identifier: Text, layout: ShapeLayout) -> Shape
-    ensures { IsPlainShape result type_identifier layout }
+#[tactic(auto, unfolding(crate::specs::Built::fresh_shape))]
+fn fresh_shape(alloc: Global, type_identifier: Text, layout: ShapeLayout) -> Shape
+    ensures { shape_without_spare result ≡ fresh type_identifier layout }
 {
     Shape {
         id: ShapeId(0),

@@ -1,6 +1,8 @@
 -- What stays of a registry that gets a draft, or loses its drafts.
-use Rattle.std.proofs.Common.{◌≡◌, ℕ, zero, suc, ◌<◌, ◌≤◌, List, [], ◌∷◌, ◌++◌, length, take, slice_get, Option, None, Some, refl, sym, ap, ◌∙◌, subst, arith, length-take, length-append}
-use Rattle.std.proofs.lemmas.List.{take-take}
+use Rattle.std.proofs.Common.{◌≡◌, ℕ, zero, suc, ◌+◌, ◌^◌, ◌<◌, ◌≤◌, ◌⊎◌, inl, inr, List, [], ◌∷◌, ◌++◌, length, take, slice_get, Option, None, Some, refl, sym, ap, ◌∙◌, subst, arith, length-take, length-append}
+use Rattle.std.proofs.lemmas.List.{take-append-le, take-take}
+use Rattle.std.proofs.lemmas.Option.{slice_get_cases, slice_get_within}
+use Rattle.facet_base.proofs.Lists.{slice_get_front, slice_get_take}
 use Rattle.facet_base.specs.declared.known_pointer.KnownPointer.{KnownPointer}
 use Rattle.facet_base.specs.declared.known_pointer.KnownPointer.TheVariants as known
 use Rattle.facet_base.specs.declared.scalar_type.ScalarType.{ScalarType}
@@ -17,22 +19,10 @@ use Rattle.facet_shapes.specs.Registry.{Registry, kind_at, kind_of_found, offere
 use Rattle.facet_shapes.specs.ValueKind.{kind_by_type, kind_of_box, kind_of_pointer, kind_by_def, kind_by_scalar}
 use Rattle.facet_shapes.specs.WellFormed.{IsRegistry, IsWellFormed}
 
--- a list and its beginning have the same at a place of the beginning
-slice_get-front : {A : Type 0} (xs ys : List A) (i : ℕ) → i < length xs → slice_get (xs ++ ys) i ≡ slice_get xs i
-slice_get-front [] ys i below = absurd (omega arith)
-slice_get-front (x ∷ xs) ys zero below = refl
-slice_get-front (x ∷ xs) ys (suc i) below = slice_get-front xs ys i (omega arith)
-
-slice_get-take : {A : Type 0} (n : ℕ) (xs : List A) (i : ℕ) → i < n → slice_get (take n xs) i ≡ slice_get xs i
-slice_get-take zero xs i below = absurd (omega arith)
-slice_get-take (suc n) [] i below = refl
-slice_get-take (suc n) (x ∷ xs) zero below = refl
-slice_get-take (suc n) (x ∷ xs) (suc i) below = slice_get-take n xs i (omega arith)
-
-take-front : {A : Type 0} (n : ℕ) (xs ys : List A) → n ≤ length xs → take n (xs ++ ys) ≡ take n xs
-take-front zero xs ys within = refl
-take-front (suc n) [] ys within = absurd (omega arith)
-take-front (suc n) (x ∷ xs) ys within = ap (λ zs. x ∷ zs) (take-front n xs ys (omega arith))
+-- the last of a list stands behind the others
+slice_get_last : {A : Type 0} (xs : List A) (x : A) → slice_get (xs ++ x ∷ []) (length xs) ≡ Some x
+slice_get_last [] x = refl
+slice_get_last (y ∷ xs) x = slice_get_last xs x
 
 -- a shape that is stored as leaves says so by its scalar alone
 no_leaf_by_type : (t : Ty) (k : ScalarType) → kind_by_type t ≡ kind.Leaf k → ⊥
@@ -75,24 +65,44 @@ well_formed_still m before after s still is =
     }
 
 module _ {L : Type 0} (m : LeafModel L) (registry : Registry) (is : IsRegistry m registry) where
-  pub registry-with_draft : (shape : Shape) → IsRegistry m (record registry { shapes = registry.shapes ++ shape ∷ [] })
-  registry-with_draft shape =
+  -- a shape that goes on with the ids stands under its own
+  ids_with_draft : (shape : Shape) → shape.id.0 ≡ length registry.shapes → (s : ℕ) (found : Shape) → slice_get (registry.shapes ++ shape ∷ []) s ≡ Some found → found.id.0 ≡ s
+  ids_with_draft shape next s found here =
+      let xs = registry.shapes in
+      elim (slice_get_cases xs s).1 [
+        | inl there ↦ is.ids s found (sym (slice_get_front xs (shape ∷ []) s there.1) ∙ here)
+        | inr past ↦
+            let within = slice_get_within (xs ++ shape ∷ []) s found here in
+            let last : s ≡ length xs = omega (arith, past.0, within, length-append xs (shape ∷ [])) in
+            let e = sym (subst (λ i. slice_get (xs ++ shape ∷ []) i ≡ Some found) last here) ∙ slice_get_last xs shape in
+            let same : found ≡ shape = cc in
+            ap (λ x. x.id.0) same ∙ next ∙ sym last
+      ]
+
+  pub registry_with_draft : (shape : Shape) → shape.id.0 ≡ length registry.shapes → length registry.shapes + 1 < 2 ^ 32 → IsRegistry m (record registry { shapes = registry.shapes ++ shape ∷ [] })
+  registry_with_draft shape next room =
       let xs = registry.shapes in
       let drafts = shape ∷ [] in
       record {
-        begins = take-front 16 xs drafts (omega (arith, is.least, is.within)) ∙ is.begins;
+        begins = take-append-le 16 xs drafts (omega (arith, is.least, is.within)) ∙ is.begins;
         least = is.least;
         within = omega (arith, is.within, length-append xs drafts);
-        well_formed = λ s below. well_formed_still m registry (record registry { shapes = xs ++ drafts }) s (slice_get-front xs drafts s (omega (arith, below, is.within))) (is.well_formed s below);
+        few = omega (arith, room, length-append xs drafts);
+        ids = ids_with_draft shape next;
+        well_formed = λ s below. well_formed_still m registry (record registry { shapes = xs ++ drafts }) s (slice_get_front xs drafts s (omega (arith, below, is.within))) (is.well_formed s below);
       }
 
-  pub registry-without_drafts : IsRegistry m (without_drafts registry)
-  registry-without_drafts =
+  pub registry_without_drafts : IsRegistry m (without_drafts registry)
+  registry_without_drafts =
       let xs = registry.shapes in
       let n = registry.sealed in
       record {
         begins = take-take 16 n xs is.least ∙ is.begins;
         least = is.least;
         within = omega (arith, is.within, length-take n xs);
-        well_formed = λ s below. well_formed_still m registry (without_drafts registry) s (slice_get-take n xs s below) (is.well_formed s below);
+        few = omega (arith, is.few, length-take n xs);
+        ids = λ s shape here.
+            let below : s < n = omega (arith, slice_get_within (take n xs) s shape here, length-take n xs) in
+            is.ids s shape (sym (slice_get_take n xs s below) ∙ here);
+        well_formed = λ s below. well_formed_still m registry (without_drafts registry) s (slice_get_take n xs s below) (is.well_formed s below);
       }

@@ -1,86 +1,91 @@
 -- The shape of a scalar, as it is built.
-use Rattle.std.proofs.Common.{◌≡◌, ℕ, List, Option, None, Some, option_map, refl, ap, ◌∙◌}
+use Rattle.std.proofs.Common.{◌≡◌, ℕ, List, [], Option, None, Some, option_map, refl, sym, ap, ◌∙◌}
 use Rattle.std.specs.Option.{option_or}
 use Rattle.facet_base.specs.Fnv.{fnv, fnv_start}
-use Rattle.facet_base.specs.declared.flags.marker_traits.MarkerTraits.{MarkerTraits}
+use Rattle.facet_base.specs.ScalarType.{identifier_of}
 use Rattle.facet_base.specs.declared.layout.ShapeLayout.TheVariants as layout
 use Rattle.facet_base.specs.declared.scalar_type.ScalarType.{ScalarType}
 use Rattle.facet_base.specs.declared.scalar_type.ScalarType.TheVariants as scalar
 use Rattle.facet_caps.specs.declared.type_ops.TypeOps.TheVariants as ops
 use Rattle.facet_caps.specs.declared.vtable_erased.VTableErased.TheVariants as erased
 use Rattle.facet_def.specs.declared.def.Def.TheVariants as def
+use Rattle.facet_desc.specs.WithoutSpare.{ty_without_spare}
 use Rattle.facet_leaf.specs.LeafModel.{LeafModel}
-use Rattle.facet_shape.specs.Built.{IsPlainShape, type_or_default, declared_id, with_declared_id, built}
+use Rattle.facet_shape.specs.Built.{type_or_default, declared_id, with_declared_id, built, fresh_shape}
+use Rattle.facet_shape.specs.WithoutSpare.{shape_without_spare}
 use Rattle.facet_shape.specs.declared.shape.Shape.{Shape}
-use Rattle.facet_shapes.specs.Plain.{plain_ty}
-use Rattle.facet_shapes.specs.Prelude.{scalar_ty, scalar_markers, scalar_module, scalar_vtable, scalar_ops, scalar_shape}
-use Rattle.facet_shapes.specs.Registry.{numbered}
+use Rattle.facet_shapes.specs.Prelude.{scalar_layout, scalar_ty, scalar_markers, scalar_module, scalar_vtable, scalar_ops, scalar_shape}
 
 or_none : {A : Type 0} (o : Option A) → option_or o None ≡ o
 or_none None = refl
 or_none (Some x) = refl
 
-resolved : (k : ScalarType) → type_or_default (scalar_ty k) def.Scalar ≡ scalar_ty k
-resolved scalar.Unit = refl
-resolved scalar.String = refl
-resolved scalar.Bool = refl
-resolved scalar.Char = refl
-resolved scalar.Str = refl
-resolved scalar.I8 = refl
-resolved scalar.I16 = refl
-resolved scalar.I32 = refl
-resolved scalar.I64 = refl
-resolved scalar.I128 = refl
-resolved scalar.ISize = refl
-resolved _ = refl
+-- the type of a scalar is never undefined, and has no list
+scalar_type_stays : (k : ScalarType) → (type_or_default (scalar_ty k) def.Scalar ≡ scalar_ty k) × (ty_without_spare (scalar_ty k) ≡ scalar_ty k)
+scalar_type_stays scalar.Unit = (refl, refl)
+scalar_type_stays scalar.String = (refl, refl)
+scalar_type_stays scalar.Bool = (refl, refl)
+scalar_type_stays scalar.Char = (refl, refl)
+scalar_type_stays scalar.Str = (refl, refl)
+scalar_type_stays scalar.I8 = (refl, refl)
+scalar_type_stays scalar.I16 = (refl, refl)
+scalar_type_stays scalar.I32 = (refl, refl)
+scalar_type_stays scalar.I64 = (refl, refl)
+scalar_type_stays scalar.I128 = (refl, refl)
+scalar_type_stays scalar.ISize = (refl, refl)
+scalar_type_stays _ = (refl, refl)
 
-plain_as_is : (k : ScalarType) → plain_ty (scalar_ty k) ≡ scalar_ty k
-plain_as_is scalar.Unit = refl
-plain_as_is scalar.String = refl
-plain_as_is scalar.Bool = refl
-plain_as_is scalar.Char = refl
-plain_as_is scalar.Str = refl
-plain_as_is scalar.I8 = refl
-plain_as_is scalar.I16 = refl
-plain_as_is scalar.I32 = refl
-plain_as_is scalar.I64 = refl
-plain_as_is scalar.I128 = refl
-plain_as_is scalar.ISize = refl
-plain_as_is _ = refl
-
-module _ {L : Type 0} (m : LeafModel L) (s : Shape) (identifier : List ℕ) (size align : ℕ) (k : ScalarType) (markers : MarkerTraits)
-    (is : IsPlainShape s identifier (layout.Sized (record { size = size; align = align }))) (bits : markers.bits ≡ scalar_markers k) where
-  -- what the builder was given
-  abbrev pub described : Shape
-  described =
+module _ {L : Type 0} (m : LeafModel L) (k : ScalarType) where
+  -- what the builder is given, beside what it begins with
+  abbrev pub described : Shape → Shape
+  described s =
       record s {
+        layout = scalar_layout k;
         vtable = erased.Direct (scalar_vtable m k);
         type_ops = Some (ops.Direct (scalar_ops m k));
-        marker_traits = markers;
+        marker_traits = record { bits = scalar_markers k };
         ty = scalar_ty k;
         def = def.Scalar;
         scalar = Some k;
         module_path = option_or (scalar_module k) s.module_path;
       }
 
-  abbrev finished : Shape
-  finished = record described { decl_id = record { 0 = fnv fnv_start identifier } }
+  abbrev finished : Shape → Shape
+  finished s = record (described s) { decl_id = record { 0 = fnv fnv_start (identifier_of k) } }
 
-  declared : declared_id described ≡ Some (fnv fnv_start identifier)
-  declared = rw (is.decl_id, is.type_params, is.const_params, is.type_identifier) refl
+  module _ (s : Shape) (is : shape_without_spare s ≡ fresh_shape (identifier_of k) layout.Unsized) where
+    declared : declared_id (described s) ≡ Some (fnv fnv_start (identifier_of k))
+    unfolding fresh_shape
+    declared =
+        let id : s.decl_id.0 ≡ 0 = ap (λ t. t.decl_id.0) is in
+        let types : s.type_params.items ≡ [] = ap (λ t. t.type_params.items) is in
+        let consts : s.const_params.items ≡ [] = ap (λ t. t.const_params.items) is in
+        let identifier : s.type_identifier ≡ identifier_of k = ap (λ t. t.type_identifier) is in
+        rw (id, types, consts, identifier) refl
 
-  built_is : built described ≡ Some finished
-  built_is =
-      ap with_declared_id (ap (λ t. record described { ty = t }) (resolved k))
-      ∙ ap (option_map (λ n. record described { decl_id = record { 0 = n } })) declared
+    built_is : built (described s) ≡ Some (finished s)
+    built_is =
+        ap with_declared_id (ap (λ t. record (described s) { ty = t }) (scalar_type_stays k).0)
+        ∙ ap (option_map (λ n. record (described s) { decl_id = record { 0 = n } })) declared
 
-  numbered_is : (n : ℕ) → numbered n finished ≡ scalar_shape m n identifier size align k
-  unfolding scalar_shape
-  numbered_is n =
-      rw (is.layout, bits, plain_as_is k, is.type_identifier, is.module_path, or_none (scalar_module k), is.source_file, is.source_line, is.source_column, is.type_params, is.const_params, is.doc, is.attributes, is.type_tag, is.inner, is.builder_shape, is.type_name, is.proxy, is.format_proxies, is.opaque_adapter, is.variance, is.variance_deps, is.flags, is.tag, is.content, is.rename) refl
+    finished_is : (n : ℕ) → shape_without_spare (record (finished s) { id = record { 0 = n } }) ≡ scalar_shape m n k
+    unfolding scalar_shape fresh_shape
+    finished_is n =
+        ap (λ t. record (finished (shape_without_spare s)) { ty = t; id = record { 0 = n } }) (scalar_type_stays k).1
+        ∙ ap (λ t. record (finished t) { id = record { 0 = n } }) is
+        ∙ ap (λ path. record (finished (fresh_shape (identifier_of k) layout.Unsized)) { module_path = path; id = record { 0 = n } }) (or_none (scalar_module k))
 
-  pub scalar_built : (shape : Shape) → Some shape ≡ built described → (n : ℕ) → numbered n shape ≡ scalar_shape m n identifier size align k
-  scalar_built shape so n =
-      let e = built_is in
-      let same : shape ≡ finished = cc in
-      ap (numbered n) same ∙ numbered_is n
+    -- the shape that is built is the scalar's, under the id that it gets
+    pub scalar_built : (builder shape : Shape) → builder ≡ described s → Some shape ≡ built builder → (n : ℕ) → shape_without_spare (record shape { id = record { 0 = n } }) ≡ scalar_shape m n k
+    scalar_built builder shape given so n =
+        let e = built_is in
+        let f = ap built given in
+        let same : shape ≡ finished s = cc in
+        ap (λ t. shape_without_spare (record t { id = record { 0 = n } })) same ∙ finished_is n
+
+    -- it is never refused
+    pub scalar_is_built : (builder : Shape) → builder ≡ described s → None ≡ built builder → ⊥
+    scalar_is_built builder given none =
+        let e = built_is in
+        let f = ap built given in
+        cc

@@ -1,4 +1,3 @@
-pub mod Plain
 pub mod Prelude
 pub mod Registry
 pub mod ValueKind

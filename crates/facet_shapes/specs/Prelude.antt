@@ -1,12 +1,13 @@
 -- The shapes that every registry begins with.
-use Rattle.std.specs.Prelude.{ℕ, Bool, true, false, List, [], ◌∷◌, Option, None, Some, codes}
+use Rattle.std.specs.Prelude.{ℕ, ◌+◌, Bool, true, false, List, [], ◌∷◌, Option, None, Some, codes}
 use Rattle.std.specs.Option.{option_or}
 use Rattle.facet_base.specs.Fnv.{fnv, fnv_start}
+use Rattle.facet_base.specs.ScalarType.{identifier_of}
 use Rattle.facet_base.specs.declared.characteristic.Characteristic.TheVariants as trait
+use Rattle.facet_base.specs.declared.layout.ShapeLayout.{ShapeLayout}
 use Rattle.facet_base.specs.declared.layout.ShapeLayout.TheVariants as layout
 use Rattle.facet_base.specs.declared.scalar_type.ScalarType.{ScalarType}
 use Rattle.facet_base.specs.declared.scalar_type.ScalarType.TheVariants as scalar
-use Rattle.facet_base.specs.declared.variance.Variance.TheVariants as variance
 use Rattle.facet_caps.specs.Empty.{empty_direct}
 use Rattle.facet_caps.specs.declared.type_ops.TypeOps.TheVariants as ops
 use Rattle.facet_caps.specs.declared.type_ops.TypeOpsDirect.{TypeOpsDirect}
@@ -21,8 +22,8 @@ use Rattle.facet_desc.specs.declared.ty.Ty.TheVariants as ty
 use Rattle.facet_desc.specs.declared.ty.UserType.TheVariants as user
 use Rattle.facet_leaf.specs.LeafModel.{LeafModel}
 use Rattle.facet_leaf.specs.declared.hook.LeafHook.TheVariants as hook
+use Rattle.facet_shape.specs.Built.{fresh_shape}
 use Rattle.facet_shape.specs.declared.shape.Shape.{Shape}
-use Rattle.facet_shapes.specs.Plain.{just}
 use Rattle.facet_shapes.specs.Registry.{Registry}
 
 -- a whole number
@@ -58,6 +59,38 @@ scalar_module _ = None
 abbrev pub in_module : ScalarType → Shape → Shape
 in_module k s = record s { module_path = option_or (scalar_module k) s.module_path }
 
+-- a size and an alignment in bytes
+abbrev pub sized : ℕ → ℕ → ShapeLayout
+sized size align = layout.Sized (record { size = size; align = align })
+
+-- the layout of the scalars of a kind
+abbrev pub scalar_layout : ScalarType → ShapeLayout
+scalar_layout scalar.Unit = sized 0 1
+scalar_layout scalar.Bool = sized 1 1
+scalar_layout scalar.Char = sized 4 4
+scalar_layout scalar.Str = layout.Unsized
+scalar_layout scalar.String = sized 24 8
+scalar_layout scalar.U8 = sized 1 1
+scalar_layout scalar.U16 = sized 2 2
+scalar_layout scalar.U32 = sized 4 4
+scalar_layout scalar.U64 = sized 8 8
+scalar_layout scalar.U128 = sized 16 16
+scalar_layout scalar.USize = sized 8 8
+scalar_layout scalar.I8 = sized 1 1
+scalar_layout scalar.I16 = sized 2 2
+scalar_layout scalar.I32 = sized 4 4
+scalar_layout scalar.I64 = sized 8 8
+scalar_layout scalar.I128 = sized 16 16
+scalar_layout scalar.ISize = sized 8 8
+
+-- the kinds of the sixteen scalars, in the order of their ids
+abbrev pub prelude_kinds : List ScalarType
+prelude_kinds =
+    scalar.Unit ∷ scalar.Bool ∷ scalar.Char ∷ scalar.String
+    ∷ scalar.U8 ∷ scalar.U16 ∷ scalar.U32 ∷ scalar.U64 ∷ scalar.U128 ∷ scalar.USize
+    ∷ scalar.I8 ∷ scalar.I16 ∷ scalar.I32 ∷ scalar.I64 ∷ scalar.I128 ∷ scalar.ISize
+    ∷ []
+
 module _ {L : Type 0} (m : LeafModel L) where
   -- what can be asked of the scalars of a kind: of the unit its equality, order, hash and debug text, of leaves what their model says
   abbrev pub scalar_vtable : ScalarType → VTableDirect
@@ -82,62 +115,26 @@ module _ {L : Type 0} (m : LeafModel L) where
   scalar_ops k =
       record { drop_in_place = false; default_in_place = m.can k trait.Default; clone_into = m.can k trait.Clone; is_truthy = m.hook k hook.Truthy }
 
-  -- a scalar's number, identifier, size and alignment in bytes, and kind; whatever else follows from the kind, or is unset
-  unfoldable pub scalar_shape : ℕ → List ℕ → ℕ → ℕ → ScalarType → Shape
-  scalar_shape id identifier size align k =
-      record {
+  -- the shape of the scalars of a kind, under an id: what follows from the kind, and nothing else set
+  unfoldable pub scalar_shape : ℕ → ScalarType → Shape
+  scalar_shape id k =
+      record (fresh_shape (identifier_of k) (scalar_layout k)) {
         id = record { 0 = id };
-        decl_id = record { 0 = fnv fnv_start identifier };
-        layout = layout.Sized (record { size = size; align = align });
+        decl_id = record { 0 = fnv fnv_start (identifier_of k) };
         vtable = erased.Direct (scalar_vtable k);
         type_ops = Some (ops.Direct (scalar_ops k));
         marker_traits = record { bits = scalar_markers k };
         ty = scalar_ty k;
         def = def.Scalar;
-        type_identifier = identifier;
         module_path = scalar_module k;
-        source_file = None;
-        source_line = None;
-        source_column = None;
-        type_params = just [];
-        const_params = just [];
-        doc = just [];
-        attributes = just [];
-        type_tag = None;
-        inner = None;
-        builder_shape = None;
-        type_name = None;
-        proxy = None;
-        format_proxies = just [];
-        opaque_adapter = None;
-        variance = record { base = variance.Bivariant; deps = just [] };
-        flags = record { bits = 0 };
-        tag = None;
-        content = None;
-        rename = None;
         scalar = Some k;
       }
 
+  -- the shapes of the scalars of these kinds, under the ids from one on
+  abbrev pub scalar_shapes : ℕ → List ScalarType → List Shape
+  scalar_shapes id [] = []
+  scalar_shapes id (k ∷ kinds) = scalar_shape id k ∷ scalar_shapes (id + 1) kinds
+
   -- the sixteen scalars, sealed
   unfoldable pub prelude : Registry
-  prelude = record {
-    sealed = 16;
-    shapes =
-        scalar_shape 0 (codes "()") 0 1 scalar.Unit
-        ∷ scalar_shape 1 (codes "bool") 1 1 scalar.Bool
-        ∷ scalar_shape 2 (codes "char") 4 4 scalar.Char
-        ∷ scalar_shape 3 (codes "String") 24 8 scalar.String
-        ∷ scalar_shape 4 (codes "u8") 1 1 scalar.U8
-        ∷ scalar_shape 5 (codes "u16") 2 2 scalar.U16
-        ∷ scalar_shape 6 (codes "u32") 4 4 scalar.U32
-        ∷ scalar_shape 7 (codes "u64") 8 8 scalar.U64
-        ∷ scalar_shape 8 (codes "u128") 16 16 scalar.U128
-        ∷ scalar_shape 9 (codes "usize") 8 8 scalar.USize
-        ∷ scalar_shape 10 (codes "i8") 1 1 scalar.I8
-        ∷ scalar_shape 11 (codes "i16") 2 2 scalar.I16
-        ∷ scalar_shape 12 (codes "i32") 4 4 scalar.I32
-        ∷ scalar_shape 13 (codes "i64") 8 8 scalar.I64
-        ∷ scalar_shape 14 (codes "i128") 16 16 scalar.I128
-        ∷ scalar_shape 15 (codes "isize") 8 8 scalar.ISize
-        ∷ [];
-  }
+  prelude = record { sealed = 16; shapes = scalar_shapes 0 prelude_kinds }

@@ -1,21 +1,20 @@
--- The registry: shapes under their numbers, and how many of them are sealed.
-use Rattle.std.specs.Prelude.{ℕ, Bool, false, List, [], ◌∷◌, ◌++◌, Option, None, Some, length, slice_get, take}
+-- The registry: shapes under their ids, and how many of them are sealed.
+use Rattle.std.specs.Prelude.{ℕ, Bool, false, List, [], ◌∷◌, ◌++◌, Option, None, Some, length, slice_get, take, unwrap_or}
 use Rattle.facet_base.specs.declared.characteristic.Characteristic.{Characteristic}
-use Rattle.facet_base.specs.declared.layout.ShapeLayout.{ShapeLayout}
-use Rattle.facet_base.specs.declared.layout.ShapeLayout.TheVariants as layout
 use Rattle.facet_shape.specs.declared.shape.Shape.{Shape}
 use Rattle.facet_shape.specs.Capability.{can}
-use Rattle.facet_shapes.specs.Plain.{plain_shape}
+use Rattle.facet_shape.specs.Memory.{size_in_bytes}
+use Rattle.facet_shape.specs.WithoutSpare.{shape_without_spare}
 use Rattle.facet_shapes.specs.declared.value_kind.ValueKind.{ValueKind}
 use Rattle.facet_shapes.specs.declared.value_kind.ValueKind.TheVariants as kind
 use Rattle.facet_shapes.specs.ValueKind.{kind_of_shape}
 
--- the shapes in order of their numbers, of which the first ones are sealed
+-- the shapes in order of their ids, of which the first ones are sealed
 pub record Registry : Type 0 where
   pub shapes : List Shape
   pub sealed : ℕ
 
--- the shape of a number, where there is one
+-- the shape of an id, where there is one
 abbrev pub shape_at : Registry → ℕ → Option Shape
 shape_at registry s = slice_get registry.shapes s
 
@@ -24,31 +23,26 @@ abbrev pub kind_of_found : List Shape → Option Shape → ValueKind
 kind_of_found shapes None = kind.NoValue
 kind_of_found shapes (Some shape) = kind_of_shape shapes shape
 
--- what the values of the shape of a number are
+-- what the values of the shape of an id are
 abbrev pub kind_at : Registry → ℕ → ValueKind
 kind_at registry s = kind_of_found registry.shapes (shape_at registry s)
 
--- the size in bytes of a layout, 0 where it is unsized
-abbrev pub size_of_layout : ShapeLayout → ℕ
-size_of_layout (layout.Sized l) = l.size
-size_of_layout layout.Unsized = 0
-
--- the same of a shape, 0 where there is none
+-- the size in bytes of the values of a shape, 0 where they share none or there is no shape
 abbrev pub size_of_found : Option Shape → ℕ
 size_of_found None = 0
-size_of_found (Some shape) = size_of_layout shape.layout
+size_of_found (Some shape) = unwrap_or (size_in_bytes shape.layout) 0
 
--- the size in bytes of the shape of a number
+-- the size in bytes of the values of the shape of an id
 abbrev pub size_at : Registry → ℕ → ℕ
 size_at registry s = size_of_found (shape_at registry s)
 
--- the shape under another number, by its lists alone
-abbrev pub numbered : ℕ → Shape → Shape
-numbered n shape = plain_shape (record shape { id = record { 0 = n } })
+-- the shape under another id
+abbrev pub with_id : ℕ → Shape → Shape
+with_id id shape = record shape { id = record { 0 = id } }
 
--- the registry with one draft more, under the next number
+-- the registry with one draft more, under the next id
 abbrev pub with_draft : Registry → Shape → Registry
-with_draft registry shape = record registry { shapes = registry.shapes ++ numbered (length registry.shapes) shape ∷ [] }
+with_draft registry shape = record registry { shapes = registry.shapes ++ with_id (length registry.shapes) (shape_without_spare shape) ∷ [] }
 
 -- the registry without its drafts
 abbrev pub without_drafts : Registry → Registry
@@ -59,6 +53,6 @@ abbrev pub offered_by : Option Shape → Characteristic → Bool
 offered_by None c = false
 offered_by (Some shape) c = can shape c
 
--- the values of the shape of a number can do that
+-- the values of the shape of an id can do that
 abbrev pub offers : Registry → ℕ → Characteristic → Bool
 offers registry s c = offered_by (shape_at registry s) c

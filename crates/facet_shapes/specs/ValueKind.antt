@@ -20,7 +20,7 @@ kind_by_type (ty.User (user.Struct s)) = kind.Struct
 kind_by_type (ty.User (user.Enum e)) = kind.Enum
 kind_by_type _ = kind.NoValue
 
--- the definition of the shape of a number, where there is one
+-- the definition of the shape of an id, where there is one
 abbrev pub def_at : List Shape → Option ShapeId → Option Def
 def_at shapes None = None
 def_at shapes (Some id) = option_map (λ shape. shape.def) (slice_get shapes id.0)

@@ -16,7 +16,7 @@ impl<L: Leaf> Shapes<L> {
     }
 }
 
-/// Whether the values of each shape can do that. Where there is no shape under a number, nothing can be done.
+/// Whether the values of each shape can do that. Where there is no shape under an id, nothing can be done.
 pub fn all<L: Leaf>(shapes: &Shapes<L>, c: Characteristic, ids: &[ShapeId]) -> bool
     ensures { result ≡ list_all (λ id. offers shapes.now id.0 c) ids.now }
 {

@@ -1,4 +1,4 @@
-//! The registry: descriptions of types under numbers, of which the first ones are sealed.
+//! The registry: descriptions of types under ids, of which the first ones are sealed.
 #![tactic(auto)]
 
 mod capability;

@@ -1,8 +1,10 @@
-ghost use Rattle.std.specs.Prelude.{◌≡◌, ℕ, IfOk};
-ghost use Rattle.facet_shapes.specs.Prelude.{whole, scalar_ty, scalar_markers, in_module, scalar_vtable as vtable_of, scalar_ops as ops_of, scalar_shape as shape_of};
-ghost use Rattle.facet_shapes.specs.Registry.{numbered};
+ghost use Rattle.std.specs.Prelude.{◌≡◌, IfOk};
+ghost use Rattle.facet_shape.specs.WithoutSpare.{shape_without_spare};
+ghost use Rattle.facet_shapes.specs.Prelude.{whole, scalar_ty, scalar_markers, scalar_layout, in_module, sized as sized_layout, scalar_vtable as vtable_of, scalar_ops as ops_of, scalar_shape as shape_of};
 
-use facet_base::{Characteristic, Flags, Layout, MarkerTraits, ScalarType, Text};
+use facet_base::{
+    Characteristic, Flags, Layout, MarkerTraits, ScalarType, ShapeId, ShapeLayout, Text,
+};
 use facet_caps::{TypeOpsDirect, VTableDirect};
 use facet_def::Def;
 use facet_desc::{NumericType, PrimitiveType, TextualType, Ty, UserType};
@@ -10,18 +12,17 @@ use facet_leaf::{Leaf, LeafHook};
 use facet_shape::{Shape, ShapeBuilder};
 use std::alloc::{AllocError, Global};
 
-/// The shape of the scalars of a kind, without a number.
+/// The shape of the scalars of a kind, under an id.
 pub fn scalar_shape<L: Leaf>(
     alloc: Global,
-    identifier: &str,
-    size: usize,
-    align: usize,
+    id: ShapeId,
     kind: ScalarType,
 ) -> Result<Shape, AllocError>
-    ensures { IfOk result (λ shape. (n : ℕ) → numbered n shape ≡ shape_of L.model n identifier.now size align kind) }
+    ensures { IfOk result (λ shape. shape_without_spare shape ≡ shape_of L.model id.0 kind) }
 {
-    let layout = Layout { size, align };
-    let builder = ShapeBuilder::for_sized(alloc, Text::new(alloc, identifier)?, layout)
+    let identifier = Text::new(alloc, kind.identifier())?;
+    let builder = ShapeBuilder::for_unsized(alloc, identifier)
+        .layout(layout(kind))
         .vtable_direct(scalar_vtable::<L>(kind))
         .type_ops_direct(scalar_ops::<L>(kind))
         .marker_traits(marker_traits(kind))
@@ -29,9 +30,32 @@ pub fn scalar_shape<L: Leaf>(
         .def(Def::Scalar)
         .scalar(kind);
     match with_module(alloc, builder, kind)?.build() {
-        Ok(shape) => Ok(shape),
+        Ok(shape) => Ok(Shape { id, ..shape }),
         Err(_) => unreachable!(),
     }
+}
+
+// The layout of the scalars of a kind.
+fn layout(kind: ScalarType) -> ShapeLayout
+    ensures { result ≡ scalar_layout kind }
+{
+    match kind {
+        ScalarType::Unit => sized(0, 1),
+        ScalarType::Bool | ScalarType::U8 | ScalarType::I8 => sized(1, 1),
+        ScalarType::U16 | ScalarType::I16 => sized(2, 2),
+        ScalarType::Char | ScalarType::U32 | ScalarType::I32 => sized(4, 4),
+        ScalarType::U64 | ScalarType::USize | ScalarType::I64 | ScalarType::ISize => sized(8, 8),
+        ScalarType::U128 | ScalarType::I128 => sized(16, 16),
+        ScalarType::String => sized(24, 8),
+        ScalarType::Str => ShapeLayout::Unsized,
+    }
+}
+
+// The layout of this size and alignment in bytes.
+fn sized(size: usize, align: usize) -> ShapeLayout
+    ensures { result ≡ sized_layout size align }
+{
+    ShapeLayout::Sized(Layout { size, align })
 }
 
 // The shape in the module of the scalars of a kind, where they aren't built in.

@@ -1,12 +1,12 @@
 ghost use Rattle.std.specs.Prelude.{◌≡◌, [], ◌∷◌, ◌++◌, ◌≤◌, length, option_map, slice_get, take, OnOk, OnErr};
 ghost use Rattle.std.specs.Option.{option_copied};
-ghost use Rattle.facet_shapes.specs.Plain.{plain_shape};
+ghost use Rattle.facet_shape.specs.WithoutSpare.{shape_without_spare};
 
 use facet_shape::Shape;
 use std::alloc::{AllocError, Global};
 use std::marker::Model;
 
-/// Shapes, in order. Contracts see what each describes, by its lists alone.
+/// Shapes, in order. Contracts see what each describes, with each list by its items.
 #[derive(Drop)]
 pub struct ShapeList {
     shapes: Vec<Shape>,
@@ -15,11 +15,11 @@ pub struct ShapeList {
 impl Model for ShapeList {
     ghost use Rattle.std.specs.Prelude.{List, map};
     ghost use Rattle.facet_shape.specs.declared.shape.Shape.{Shape};
-    ghost use Rattle.facet_shapes.specs.Plain.{plain_shape};
+    ghost use Rattle.facet_shape.specs.WithoutSpare.{shape_without_spare};
 
     ghost Value = { List Shape };
 
-    ghost view = { λ list. map plain_shape list.shapes.items };
+    ghost view = { λ list. map shape_without_spare list.shapes.items };
 }
 
 impl ShapeList {
@@ -39,23 +39,23 @@ impl ShapeList {
         self.shapes.len()
     }
 
-    /// The shape at place `i`, and none exactly at or above the length.
+    /// The shape at index `i`, and none exactly at or above the length.
     pub fn get(&self, i: usize) -> Option<&Shape>
-        ensures { option_map plain_shape (option_copied result) ≡ slice_get self.now i }
+        ensures { option_map shape_without_spare (option_copied result) ≡ slice_get self.now i }
     {
         self.shapes.get(i)
     }
 
     /// Adds a shape at the end. A refusal drops it.
     pub fn push(&mut self, shape: Shape) -> Result<(), AllocError>
-        ensures ok { OnOk result (self.new ≡ self.old ++ plain_shape shape ∷ []) }
+        ensures ok { OnOk result (self.new ≡ self.old ++ shape_without_spare shape ∷ []) }
         ensures err { OnErr result (self.new ≡ self.old) }
     {
         self.shapes.push(shape)?;
         Ok(())
     }
 
-    /// Drops the shapes from place `n` on.
+    /// Drops the shapes from index `n` on.
     pub fn truncate(&mut self, n: usize)
         requires { n ≤ length self.old }
         ensures { self.new ≡ take n self.old }

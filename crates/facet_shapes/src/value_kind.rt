@@ -1,5 +1,6 @@
 ghost use Rattle.std.specs.Prelude.{◌≡◌, Some};
-ghost use Rattle.facet_shapes.specs.Plain.{plain_shape, plain_ty};
+ghost use Rattle.facet_desc.specs.WithoutSpare.{ty_without_spare};
+ghost use Rattle.facet_shape.specs.WithoutSpare.{shape_without_spare};
 ghost use Rattle.facet_shapes.specs.ValueKind.{kind_of_shape, kind_by_def, kind_of_pointer, kind_of_box, kind_by_type, def_at};
 
 use crate::shape_list::ShapeList;
@@ -28,7 +29,7 @@ pub enum ValueKind {
 
 /// What the values of a shape are, among these shapes.
 pub fn kind_of(shapes: &ShapeList, shape: &Shape) -> ValueKind
-    ensures { result ≡ kind_of_shape shapes.now (plain_shape shape.now) }
+    ensures { result ≡ kind_of_shape shapes.now (shape_without_spare shape.now) }
 {
     match shape.scalar {
         Some(ScalarType::Unit) => ValueKind::Unit,
@@ -39,7 +40,7 @@ pub fn kind_of(shapes: &ShapeList, shape: &Shape) -> ValueKind
 
 // The same by the definition, where there is no scalar.
 fn kind_of_def(shapes: &ShapeList, shape: &Shape) -> ValueKind
-    ensures { result ≡ kind_by_def shapes.now shape.now.def (plain_shape shape.now).ty }
+    ensures { result ≡ kind_by_def shapes.now shape.now.def (shape_without_spare shape.now).ty }
 {
     match &shape.def {
         Def::Option(_) => ValueKind::Option,
@@ -84,7 +85,7 @@ fn kind_of_content(shapes: &ShapeList, id: ShapeId) -> ValueKind
 
 // The same by the type, where there is no definition.
 fn kind_of_type(ty: &Ty) -> ValueKind
-    ensures { result ≡ kind_by_type (plain_ty ty.now) }
+    ensures { result ≡ kind_by_type (ty_without_spare ty.now) }
 {
     match ty {
         Ty::User(UserType::Struct(_)) => ValueKind::Struct,

@@ -1,2 +1,3 @@
+pub mod Leaves
 mod Readings
 mod Ranges

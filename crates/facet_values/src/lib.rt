@@ -5,4 +5,4 @@ mod form;
 mod laws;
 
 pub use form::Form;
-pub use laws::{one_reading, same_reading};
+pub use laws::{leaf_reading, one_reading, same_reading};

@@ -1,6 +1,6 @@
 ghost use Rattle.std.specs.Prelude.{◌≡◌, ◌<◌, [], Some, IfOk, OnOk, OnErr, IsTrue, bytes_eq};
 ghost use Rattle.std.specs.List.{list_any};
-ghost use Rattle.facet_shapes.specs.Registry.{kind_at, size_at, size_of_layout, offers};
+ghost use Rattle.facet_shapes.specs.Registry.{kind_at, size_at, offers};
 ghost use Rattle.facet_shapes.specs.WellFormed.{IsRegistry};
 ghost use Rattle.facet_block.specs.Block.{empty_block, with_item};
 ghost use Rattle.facet_block.specs.declared.block.Item.{Leaf};
@@ -13,7 +13,7 @@ use crate::conditions::{is_taken, is_unsealed};
 use crate::refusal::{Refusal, refuse};
 use crate::session::{Answer, Cell, Session};
 use crate::writing::text_of_made;
-use facet_base::{Characteristic, ShapeId, ShapeLayout, Text};
+use facet_base::{Characteristic, ShapeId, Text};
 use facet_block::{Block, Leaf, PtrUninit};
 use facet_shapes::{Shapes, ValueKind};
 use std::alloc::{AllocError, Global};
@@ -128,27 +128,7 @@ fn block_of<L: Leaf>(
     requires { 0 < size_at shapes.now shape.0 }
     ensures { IfOk result (λ block. block ≡ with_item (empty_block (size_at shapes.now shape.0)) 0 (Some (Leaf leaf))) }
 {
-    let mut block = Block::new(alloc, size_of(shapes, shape))?;
+    let mut block = Block::new(alloc, shapes.size_of(shape))?;
     PtrUninit::new(&mut block, 0).put(leaf);
     Ok(block)
-}
-
-// The size of a shape in bytes, 0 where there is none.
-fn size_of<L: Leaf>(shapes: &Shapes<L>, shape: ShapeId) -> usize
-    ensures { result ≡ size_at shapes.now shape.0 }
-{
-    match shapes.get(shape) {
-        Some(shape) => size_in(shape.layout),
-        None => 0,
-    }
-}
-
-// The size of a layout in bytes, 0 where it is unsized.
-fn size_in(layout: ShapeLayout) -> usize
-    ensures { result ≡ size_of_layout layout }
-{
-    match layout {
-        ShapeLayout::Sized(layout) => layout.size,
-        ShapeLayout::Unsized => 0,
-    }
 }

@@ -1,8 +1,16 @@
-use Rattle.std.proofs.Common.{refl}
-use Rattle.facet_shapes.specs.Prelude.{prelude}
+use Rattle.facet_shapes.specs.Prelude.{prelude_kinds, scalar_shapes}
+use Rattle.facet_shapes.proofs.Preludes.{scalars_more, scalars_done}
 use Rattle.facet_shapes.proofs.registry.prelude_shapes.Goals as goal
 
+pub loop-kind-preserved : goal.loop-kind-preserved
+loop-kind-preserved g c =
+    let m = g.L.Leaf.model in
+    let l = c.loop-kind in
+    let more = scalars_more m l.shapes c.add.new.shapes prelude_kinds l.kind-index _ (scalar_shapes m 0 prelude_kinds) c.loop-kind-test.true l.invariant.count l.invariant.rest c.in_ok-add.ensures in
+    record { count = more.0; rest = more.1 }
+
 pub returns : goal.returns
-unfolding prelude
 returns g c =
-    rw (c.in_ok-add-16.ensures, c.in_ok-add-15.ensures, c.in_ok-add-14.ensures, c.in_ok-add-13.ensures, c.in_ok-add-12.ensures, c.in_ok-add-11.ensures, c.in_ok-add-10.ensures, c.in_ok-add-9.ensures, c.in_ok-add-8.ensures, c.in_ok-add-7.ensures, c.in_ok-add-6.ensures, c.in_ok-add-5.ensures, c.in_ok-add-4.ensures, c.in_ok-add-3.ensures, c.in_ok-add-2.ensures, c.in_ok-add.ensures, c.new-shapes.ensures) refl
+    let m = g.L.Leaf.model in
+    let l = c.loop-kind in
+    scalars_done m l.shapes prelude_kinds l.kind-index (scalar_shapes m 0 prelude_kinds) c.loop-kind-test.false l.invariant.rest

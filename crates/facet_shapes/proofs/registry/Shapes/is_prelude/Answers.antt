@@ -1,7 +1,7 @@
 use Rattle.std.proofs.Common.{◌≡◌, ◌∙◌, subst, sym, ap, length, eq-eqb}
 use Rattle.std.proofs.lemmas.Bool.{eqb-true}
 use Rattle.facet_shapes.specs.WellFormed.{IsRegistry}
-use Rattle.facet_shapes.proofs.Preludes.{prelude_alone, length-prelude}
+use Rattle.facet_shapes.proofs.Preludes.{prelude_alone, length_prelude}
 use Rattle.facet_shapes.proofs.registry.Shapes.is_prelude.Goals as goal
 
 pub returns : goal.returns
@@ -11,5 +11,5 @@ returns g c =
     let is : IsRegistry m now = subst (IsRegistry m) c.self.view_is c.self.invariant in
     let count : c.len.result ≡ length now.shapes = c.len.ensures ∙ ap (λ r. length r.shapes) c.self.view_is in (
       (λ test. prelude_alone m now is (sym count ∙ eqb-true c.len.result 16 test)),
-      (λ same. eq-eqb c.len.result 16 (count ∙ length-prelude m now same)),
+      (λ same. eq-eqb c.len.result 16 (count ∙ length_prelude m now same)),
     )
