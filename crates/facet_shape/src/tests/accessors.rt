@@ -1,12 +1,13 @@
 use crate::{Shape, ShapeBuilder, try_from_shape};
 use facet_base::{
-    HookId, KnownPointer, Layout, Many, PointerFlags, ScalarType, ShapeFlags, ShapeId, Text,
+    Characteristic, HookId, KnownPointer, Layout, Many, PointerFlags, ScalarType, ShapeFlags,
+    ShapeId, Text,
 };
 use facet_caps::{PointerVTable, SliceBuilderVTable, TypeOpsDirect, VTableDirect};
 use facet_def::{Def, PointerDef};
 use facet_desc::{
-    Attr, AttrData, EnumRepr, EnumTypeBuilder, FormatProxy, OpaqueAdapterDef, ProxyDef, Ty,
-    UserType,
+    Attr, AttrData, EnumRepr, EnumTypeBuilder, FormatProxy, OpaqueAdapterDef, PrimitiveType,
+    ProxyDef, Ty, UserType,
 };
 use std::alloc::{AllocError, Global};
 use std::test::Fail;
@@ -16,16 +17,12 @@ fn begin(alloc: Global) -> Result<ShapeBuilder, AllocError> {
     Ok(Shape::builder_for_sized(alloc, Text::new(alloc, "Point")?, layout))
 }
 
-fn attribute(alloc: Global, key: &str, value: i128) -> Result<Attr, AllocError> {
-    Ok(Attr::new(None, Text::new(alloc, key)?, AttrData::Int(value)))
-}
-
-fn attributes(alloc: Global) -> Result<Many<Attr>, AllocError> {
+// Builtin attributes of a key, with these numbers.
+fn attributes(alloc: Global, key: &str, values: [i128; 2]) -> Result<Many<Attr>, AllocError> {
     let mut attributes = Many::new(alloc);
-    attributes.push(attribute(alloc, "deny_unknown_fields", 1)?)?;
-    attributes.push(attribute(alloc, "default", 2)?)?;
-    attributes.push(attribute(alloc, "default", 3)?)?;
-    attributes.push(attribute(alloc, "transparent", 4)?)?;
+    for value in values {
+        attributes.push(Attr::new(None, Text::new(alloc, key)?, AttrData::Int(value)))?;
+    }
     Ok(attributes)
 }
 
@@ -64,39 +61,19 @@ fn slice_pointer() -> Def {
     })
 }
 
-// A builder that was given all that the next function asks for.
-fn decorated(alloc: Global) -> Result<ShapeBuilder, AllocError> {
-    let attributes = attributes(alloc)?;
-    let operations = TypeOpsDirect {
+fn operations() -> TypeOpsDirect {
+    TypeOpsDirect {
         drop_in_place: false,
         default_in_place: false,
         clone_into: false,
-        is_truthy: true,
-    };
-    let adapter = OpaqueAdapterDef {
-        serialize: HookId(3),
-        deserialize: HookId(4),
-    };
-    let cow = EnumTypeBuilder::new(EnumRepr::U8, Many::new(alloc)).cow();
-    Ok(
-        begin(alloc)?
-            .attributes(attributes)
-            .untagged()
-            .is_numeric()
-            .metadata_container()
-            .pod()
-            .proxy(proxy(20))
-            .opaque_adapter(adapter)
-            .type_ops_direct(operations)
-            .def(slice_pointer())
-            .ty(Ty::User(UserType::Enum(cow.build()))),
-    )
+        is_truthy: false,
+    }
 }
 
 // What the shape answers, in this order: the attributes deny_unknown_fields and default, transparent, untagged,
 // numeric, a container of metadata, any values, borrowed or owned, a proxy, an adapter, a truth value, made by a
 // slice builder.
-fn tests_of(builder: ShapeBuilder) -> Option<[bool; 12]> {
+fn answers(builder: ShapeBuilder) -> Option<[bool; 12]> {
     let shape = builder.build().ok()?;
     Some([
         shape.has_deny_unknown_fields_attr(),
@@ -114,33 +91,57 @@ fn tests_of(builder: ShapeBuilder) -> Option<[bool; 12]> {
     ])
 }
 
+// No answer but the one at this index.
+fn only(index: usize) -> Option<[bool; 12]> {
+    let mut answers = [false; 12];
+    if index < 12 {
+        answers[index] = true;
+    }
+    Some(answers)
+}
+
 #[test]
-fn a_shape_of_which_all_is_set_answers_yes_and_a_plain_one_no(rt: HostRuntime) -> Result<(), Fail> {
+fn each_question_reads_its_own_member(rt: HostRuntime) -> Result<(), Fail> {
     let alloc = rt.alloc();
-    assert_eq!(rt; tests_of(decorated(alloc)?), Some([true; 12]));
-    assert_eq!(rt; tests_of(begin(alloc)?), Some([false; 12]));
-    Ok(())
-}
-
-// The flags and the marker traits of the shape.
-fn flags_of(builder: ShapeBuilder) -> Option<(u16, u8)> {
-    let shape = builder.build().ok()?;
-    Some((shape.flags.bits, shape.marker_traits.bits))
-}
-
-#[test]
-fn flags_are_joined(rt: HostRuntime) -> Result<(), Fail> {
-    let builder = begin(rt.alloc())?
-        .flags(ShapeFlags::POD)
-        .is_numeric()
-        .send()
-        .sync();
-    assert_eq!(rt; flags_of(builder), Some((6, 6)));
+    assert_eq!(rt; answers(begin(alloc)?), Some([false; 12]));
+    for (index, key) in [
+        (0, "deny_unknown_fields"),
+        (1, "default"),
+        (2, "transparent"),
+    ] {
+        let attributes = attributes(alloc, key, [1, 2])?;
+        assert_eq!(rt; answers(begin(alloc)?.attributes(attributes)), only(index));
+    }
+    for (index, flag) in [
+        (3, ShapeFlags::UNTAGGED),
+        (4, ShapeFlags::NUMERIC),
+        (5, ShapeFlags::METADATA_CONTAINER),
+        (6, ShapeFlags::POD),
+    ] {
+        assert_eq!(rt; answers(begin(alloc)?.flags(flag)), only(index));
+    }
+    let primitive = Ty::Primitive(PrimitiveType::Boolean);
+    assert_eq!(rt; answers(begin(alloc)?.ty(primitive)), only(6));
+    let cow = EnumTypeBuilder::new(EnumRepr::U8, Many::new(alloc)).cow();
+    let cow = Ty::User(UserType::Enum(cow.build()));
+    assert_eq!(rt; answers(begin(alloc)?.ty(cow)), only(7));
+    assert_eq!(rt; answers(begin(alloc)?.proxy(proxy(20))), only(8));
+    let adapter = OpaqueAdapterDef {
+        serialize: HookId(3),
+        deserialize: HookId(4),
+    };
+    assert_eq!(rt; answers(begin(alloc)?.opaque_adapter(adapter)), only(9));
+    let truthy = TypeOpsDirect {
+        is_truthy: true,
+        ..operations()
+    };
+    assert_eq!(rt; answers(begin(alloc)?.type_ops_direct(truthy)), only(10));
+    assert_eq!(rt; answers(begin(alloc)?.def(slice_pointer())), only(11));
     Ok(())
 }
 
 // What the values of the shape can do, in the order of `Characteristic`.
-fn capabilities_of(builder: ShapeBuilder) -> Option<[bool; 9]> {
+fn capabilities(builder: ShapeBuilder) -> Option<[bool; 9]> {
     let shape = builder.build().ok()?;
     Some([
         shape.is_clone(),
@@ -155,79 +156,110 @@ fn capabilities_of(builder: ShapeBuilder) -> Option<[bool; 9]> {
     ])
 }
 
-#[test]
-fn capabilities_are_those_of_the_record_and_the_operations(rt: HostRuntime) -> Result<(), Fail> {
-    let vtable = VTableDirect {
-        display: true,
-        partial_cmp: true,
-        parse: true,
-        ..VTableDirect::empty()
-    };
-    let operations = TypeOpsDirect {
-        drop_in_place: true,
-        default_in_place: true,
-        clone_into: false,
-        is_truthy: false,
-    };
-    let builder = begin(rt.alloc())?
-        .vtable_direct(vtable)
-        .type_ops_direct(operations);
-    let expected = [false, true, false, false, true, false, false, true, true];
-    assert_eq!(rt; capabilities_of(builder), Some(expected));
-    Ok(())
+// No capability but the one at this index.
+fn able_at(index: usize) -> [bool; 9] {
+    let mut capabilities = [false; 9];
+    if index < 9 {
+        capabilities[index] = true;
+    }
+    capabilities
 }
 
-// The shapes of the proxies for a format and for any, and what the first attribute `default` holds.
-fn lookups_of(builder: ShapeBuilder, format: &str) -> Option<(ShapeId, ShapeId, bool)> {
-    let shape = builder.build().ok()?;
-    let value = shape.get_builtin_attr_value("default");
-    Some((
-        shape.effective_proxy(Some(format))?.shape,
-        shape.effective_proxy(None)?.shape,
-        matches!(value, Some(AttrData::Int(2))),
-    ))
+// The records of a type whose values can do that alone.
+fn able(c: Characteristic) -> (VTableDirect, TypeOpsDirect) {
+    let mut vtable = VTableDirect::empty();
+    let mut type_ops = operations();
+    match c {
+        Characteristic::Clone => type_ops.clone_into = true,
+        Characteristic::Display => vtable.display = true,
+        Characteristic::Debug => vtable.debug = true,
+        Characteristic::PartialEq => vtable.partial_eq = true,
+        Characteristic::PartialOrd => vtable.partial_cmp = true,
+        Characteristic::Ord => vtable.cmp = true,
+        Characteristic::Hash => vtable.hash = true,
+        Characteristic::Default => type_ops.default_in_place = true,
+        Characteristic::FromStr => vtable.parse = true,
+    }
+    (vtable, type_ops)
 }
 
 #[test]
-fn the_first_of_a_list_is_found(rt: HostRuntime) -> Result<(), Fail> {
-    let alloc = rt.alloc();
-    for (format, found) in [("json", 21), ("xml", 20)] {
-        let proxies = format_proxies(alloc)?;
-        let builder = decorated(alloc)?.format_proxies(proxies);
-        let expected = (ShapeId(found), ShapeId(20), true);
-        assert_eq!(rt; lookups_of(builder, format), Some(expected));
+fn each_capability_is_read_off_its_own_member(rt: HostRuntime) -> Result<(), Fail> {
+    for (index, c) in [
+        (0, Characteristic::Clone),
+        (1, Characteristic::Display),
+        (2, Characteristic::Debug),
+        (3, Characteristic::PartialEq),
+        (4, Characteristic::PartialOrd),
+        (5, Characteristic::Ord),
+        (6, Characteristic::Hash),
+        (7, Characteristic::Default),
+        (8, Characteristic::FromStr),
+    ] {
+        let (vtable, type_ops) = able(c);
+        let builder = begin(rt.alloc())?
+            .vtable_direct(vtable)
+            .type_ops_direct(type_ops);
+        assert_eq!(rt; capabilities(builder), Some(able_at(index)));
     }
     Ok(())
 }
 
-// Whether the shape has these, in this order: the name, the tag, the content, the kind of scalar, a proxy for the
-// format.
-fn members_of(builder: ShapeBuilder) -> Option<[bool; 6]> {
+// The lengths of the shape's name, tag and content, and its kind of scalar, which is asked in two ways.
+fn members(builder: ShapeBuilder) -> Option<([Option<usize>; 3], [Option<ScalarType>; 2])> {
     let shape = builder.build().ok()?;
-    Some([
-        shape.effective_name() == "Place",
-        shape.get_tag_attr() == Some("kind"),
-        shape.get_content_attr() == Some("body"),
-        shape.scalar_type() == Some(ScalarType::U32),
-        try_from_shape(&shape) == Some(ScalarType::U32),
-        shape.format_proxy("json").is_some() && shape.format_proxy("xml").is_none(),
-    ])
+    let lengths = [
+        Some(shape.effective_name().len()),
+        shape.get_tag_attr().map(str::len),
+        shape.get_content_attr().map(str::len),
+    ];
+    Some((lengths, [shape.scalar_type(), try_from_shape(&shape)]))
+}
+
+// The shapes of the proxies that are found for a format, listed or not, and for no format, and the number in the
+// first attribute `default`.
+fn lookups(builder: ShapeBuilder, format: &str) -> Option<([Option<ShapeId>; 3], i128)> {
+    let shape = builder.build().ok()?;
+    let proxies = [
+        shape.format_proxy(format).map(|proxy| proxy.shape),
+        shape.effective_proxy(Some(format)).map(|proxy| proxy.shape),
+        shape.effective_proxy(None).map(|proxy| proxy.shape),
+    ];
+    match shape.get_builtin_attr_value("default") {
+        Some(AttrData::Int(value)) => Some((proxies, *value)),
+        _ => None,
+    }
 }
 
 #[test]
-fn members_are_there_where_they_were_set(rt: HostRuntime) -> Result<(), Fail> {
+fn members_and_the_first_of_a_list_are_found(rt: HostRuntime) -> Result<(), Fail> {
     let alloc = rt.alloc();
-    let name = Text::new(alloc, "Place")?;
+    assert_eq!(rt;
+        members(begin(alloc)?),
+        Some(([Some(5), None, None], [None; 2]))
+    );
+    let name = Text::new(alloc, "P")?;
     let tag = Text::new(alloc, "kind")?;
-    let content = Text::new(alloc, "body")?;
-    let proxies = format_proxies(alloc)?;
+    let content = Text::new(alloc, "content")?;
     let builder = begin(alloc)?
         .rename(name)
         .tag(tag)
         .content(content)
-        .scalar(ScalarType::U32)
-        .format_proxies(proxies);
-    assert_eq!(rt; members_of(builder), Some([true; 6]));
-    assert_eq!(rt; members_of(begin(alloc)?), Some([false; 6]));
+        .scalar(ScalarType::U32);
+    let scalar = Some(ScalarType::U32);
+    assert_eq!(rt;
+        members(builder),
+        Some(([Some(1), Some(4), Some(7)], [scalar; 2]))
+    );
+    for (format, listed, found) in [("json", Some(ShapeId(21)), 21), ("xml", None, 20)] {
+        let attributes = attributes(alloc, "default", [2, 3])?;
+        let proxies = format_proxies(alloc)?;
+        let builder = begin(alloc)?
+            .attributes(attributes)
+            .proxy(proxy(20))
+            .format_proxies(proxies);
+        let expected = [listed, Some(ShapeId(found)), Some(ShapeId(20))];
+        assert_eq!(rt; lookups(builder, format), Some((expected, 2)));
+    }
     Ok(())
 }

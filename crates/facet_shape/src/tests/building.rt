@@ -6,10 +6,9 @@ use facet_desc::{ConstParam, ConstParamKind, TypeParam};
 use std::alloc::{AllocError, Global};
 use std::test::Fail;
 
-fn begin(alloc: Global, identifier: &str) -> Result<ShapeBuilder, AllocError> {
-    let identifier = Text::new(alloc, identifier)?;
+fn begin(alloc: Global) -> Result<ShapeBuilder, AllocError> {
     let layout = Layout { size: 24, align: 8 };
-    Ok(Shape::builder_for_sized(alloc, identifier, layout))
+    Ok(Shape::builder_for_sized(alloc, Text::new(alloc, "Grid")?, layout))
 }
 
 fn type_param(alloc: Global) -> Result<Many<TypeParam>, AllocError> {
@@ -45,44 +44,26 @@ fn kind_and_number(builder: ShapeBuilder) -> Option<(bool, u128)> {
     Some((shape.ty.kind_str() == "array", shape.decl_id.0))
 }
 
+// The hashes are those of `Grid` and of `@geometry#array#Grid`.
 #[test]
-fn a_given_number_is_kept(rt: HostRuntime) -> Result<(), Fail> {
+fn a_declaration_is_numbered_as_given_or_by_its_hash(rt: HostRuntime) -> Result<(), Fail> {
     let alloc = rt.alloc();
     let params = type_param(alloc)?;
-    let builder = begin(alloc, "Grid")?.type_params(params).decl_id(DeclId(7));
-    assert_eq!(rt; kind_and_number(builder), Some((false, 7)));
-    Ok(())
-}
-
-#[test]
-fn a_type_without_parameters_is_numbered_by_its_identifier(rt: HostRuntime) -> Result<(), Fail> {
-    let alloc = rt.alloc();
+    let given = begin(alloc)?.type_params(params).decl_id(DeclId(7));
+    assert_eq!(rt; kind_and_number(given), Some((false, 7)));
     let path = Text::new(alloc, "geometry")?;
-    let builder = begin(alloc, "Grid")?.module_path(path);
+    let without_parameters = begin(alloc)?.module_path(path);
     let hash = 138851089735242672527269273822017239145;
-    assert_eq!(rt; kind_and_number(builder), Some((false, hash)));
-    Ok(())
-}
-
-#[test]
-fn a_generic_type_is_numbered_by_path_kind_and_identifier(rt: HostRuntime) -> Result<(), Fail> {
-    let alloc = rt.alloc();
+    assert_eq!(rt; kind_and_number(without_parameters), Some((false, hash)));
     let params = const_param(alloc)?;
     let path = Text::new(alloc, "geometry")?;
-    let builder = begin(alloc, "Grid")?
+    let generic = begin(alloc)?
         .const_params(params)
         .module_path(path)
         .def(array(3));
     let hash = 79999020198012046017194262597885632006;
-    assert_eq!(rt; kind_and_number(builder), Some((true, hash)));
-    Ok(())
-}
-
-#[test]
-fn a_generic_type_without_number_and_path_is_refused(rt: HostRuntime) -> Result<(), Fail> {
-    let alloc = rt.alloc();
+    assert_eq!(rt; kind_and_number(generic), Some((true, hash)));
     let params = type_param(alloc)?;
-    let builder = begin(alloc, "Grid")?.type_params(params);
-    assert_eq!(rt; kind_and_number(builder), None);
+    assert_eq!(rt; kind_and_number(begin(alloc)?.type_params(params)), None);
     Ok(())
 }

@@ -1,32 +1,64 @@
 use crate::{AllocateError, Shape, ShapeBuilder};
-use facet_base::{Layout, Text};
+use facet_base::{Layout, ShapeLayout, Text};
 use facet_block::Block;
-use std::alloc::Global;
+use std::alloc::{AllocError, Global};
 use std::test::Fail;
 
-// The size of the block that the shape gives, and whether it takes the block back. None where it gives none.
-fn block_of(alloc: Global, builder: ShapeBuilder) -> Option<(usize, bool)> {
-    let shape = builder.build().ok()?;
-    let block: Block<u32> = match shape.allocate(alloc) {
-        Ok(block) => block,
-        Err(AllocateError::Unsized | AllocateError::NoMemory) => return None,
+// Why a shape gave no block, or no shape was built.
+#[derive(Clone, Copy, PartialEq, Eq, Debug)]
+enum Refusal {
+    Unbuilt,
+    Unsized,
+    NoMemory,
+}
+
+// The size of the block that the shape gives.
+fn size_given(alloc: Global, builder: ShapeBuilder) -> Result<usize, Refusal> {
+    let Ok(shape) = builder.build() else {
+        return Err(Refusal::Unbuilt);
     };
+    let given: Result<Block<u32>, AllocateError> = shape.allocate(alloc);
+    match given {
+        Ok(block) => Ok(block.size()),
+        Err(AllocateError::Unsized) => Err(Refusal::Unsized),
+        Err(AllocateError::NoMemory) => Err(Refusal::NoMemory),
+    }
+}
+
+// Whether the shape takes an empty block back.
+fn is_taken(builder: ShapeBuilder, block: Block<u32>) -> Option<bool> {
+    let shape = builder.build().ok()?;
     let size = block.size();
     if !block.is_empty_in(0, size) {
         return None;
     }
-    Some((size, shape.deallocate(block).is_ok()))
+    Some(shape.deallocate(block).is_ok())
+}
+
+fn begin(alloc: Global, layout: ShapeLayout) -> Result<ShapeBuilder, AllocError> {
+    let identifier = Text::new(alloc, "T")?;
+    Ok(Shape::builder_for_unsized(alloc, identifier).layout(layout))
 }
 
 #[test]
-fn a_shape_gives_a_block_of_its_size_and_an_unsized_one_none(rt: HostRuntime) -> Result<(), Fail> {
+fn blocks_are_given_and_taken_for_sized_shapes_alone(rt: HostRuntime) -> Result<(), Fail> {
     let alloc = rt.alloc();
-    for size in [0, 24] {
-        let layout = Layout { size, align: 8 };
-        let builder = Shape::builder_for_sized(alloc, Text::new(alloc, "T")?, layout);
-        assert_eq!(rt; block_of(alloc, builder), Some((size, true)));
+    for (layout, given, taken) in [
+        (
+            ShapeLayout::Sized(Layout { size: 0, align: 1 }),
+            Ok(0),
+            true,
+        ),
+        (
+            ShapeLayout::Sized(Layout { size: 24, align: 8 }),
+            Ok(24),
+            true,
+        ),
+        (ShapeLayout::Unsized, Err(Refusal::Unsized), false),
+    ] {
+        assert_eq!(rt; size_given(alloc, begin(alloc, layout)?), given);
+        let block = Block::new(alloc, 24)?;
+        assert_eq!(rt; is_taken(begin(alloc, layout)?, block), Some(taken));
     }
-    let builder = Shape::builder_for_unsized(alloc, Text::new(alloc, "str")?);
-    assert_eq!(rt; block_of(alloc, builder), None);
     Ok(())
 }
