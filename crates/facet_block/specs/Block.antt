@@ -1,4 +1,4 @@
--- Blocks and sequences as plain data: a block is a finite map from offsets in bytes to items. Layers above read them by
+-- Blocks and sequences as data: a block is a finite map from offsets in bytes to items. Layers above read them by
 -- these words alone, and define by cases on an item with the patterns `Leaf x`, `Tag n` and `Sequence s` of
 -- `declared.block.Item`, ended by `_`.
 use Rattle.std.specs.Prelude.{ℕ, ◌+◌, ◌-◌, List, ◌++◌, Option, None, Some, length, replicate, slice_get, slice_set, take, drop, unwrap_or}

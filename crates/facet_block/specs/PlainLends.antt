@@ -1,4 +1,4 @@
--- What a plain list is once the borrow of one of its items has ended.
+-- What a list is once the borrow of one of its items has ended.
 use Rattle.std.specs.Prelude.{ℕ, List, slice_set, Option}
 use Rattle.std.specs.Borrow.{LendsIf, MutBor, Fml, RattleType}
 use Rattle.facet_block.specs.contracts.plain_vec.PlainVec.{the_row}

@@ -7,7 +7,7 @@ use std::alloc::{AllocError, Global};
 use std::marker::Model;
 use std::mem;
 
-/// A `Vec` that contracts see as the plain list of its items.
+/// A `Vec` that contracts see as the list of its items.
 #[derive(Drop)]
 pub struct PlainVec<T> {
     items: Vec<T>,

@@ -11,7 +11,7 @@ pub struct TypeOpsDirect {
     pub is_truthy: bool,
 }
 
-/// The same for a generic type, where each call is told the shape.
+/// The same for a generic type, where each call takes the shape.
 #[derive(Clone, Copy)]
 pub struct TypeOpsIndirect {
     pub drop_in_place: bool,

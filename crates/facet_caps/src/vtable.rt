@@ -64,7 +64,7 @@ impl Default for VTableDirect {
     }
 }
 
-/// What can be done with the values of a generic type, where each call is told the shape.
+/// What can be done with the values of a generic type, where each call takes the shape.
 #[derive(Clone, Copy)]
 pub struct VTableIndirect {
     pub display: bool,

@@ -16,7 +16,7 @@ slice_get-drop (x ∷ xs) (suc i) = slice_get-drop xs i
 pub same_at : {A : Type 0} (xs ys : List A) (i : ℕ) (x : A) → drop i xs ≡ drop i ys → Some x ≡ slice_get xs i → slice_get ys i ≡ Some x
 same_at xs ys i x rest here = slice_get-drop ys i ∙ ap (λ zs. slice_get zs 0) (sym rest) ∙ sym (slice_get-drop xs i) ∙ sym here
 
--- the lists are still one behind that place, whatever is put there
+-- the lists are still one past that index, whatever is put there
 pub same_behind : {A : Type 0} (xs ys : List A) (i : ℕ) (x : A) → drop i xs ≡ drop i ys → drop (i + 1) (slice_set xs i x) ≡ drop (i + 1) ys
 same_behind xs ys i x rest =
     drop-set-lt (i + 1) xs i x (omega arith) ∙ sym (drop-drop 1 i xs) ∙ ap (drop 1) rest ∙ drop-drop 1 i ys

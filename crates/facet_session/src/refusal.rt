@@ -18,7 +18,7 @@ pub enum Refusal {
     WrongShape,
     /// The text is no value of the shape.
     BadText,
-    /// The record of the shape lacks what the command asks for.
+    /// The record of the shape lacks what the command needs.
     Unsupported,
 }
 

@@ -73,7 +73,7 @@ with_resolved_type s = record s { ty = type_or_default s.ty s.def }
 abbrev pub has_parameters : Shape → Bool
 has_parameters s = nat_lt 0 (length s.type_params.items) || nat_lt 0 (length s.const_params.items)
 
--- the hash of the identifier, or of a generic type that of its module path, kind and identifier, which asks for a path
+-- the hash of the identifier, or of a generic type that of its module path, kind and identifier, which requires a path
 abbrev pub hashed_id : Shape → Option ℕ
 hashed_id s =
     if has_parameters s
