@@ -1,20 +1,14 @@
 -- One more turn of a run: what it adds to the answers, the state that it leaves and the leaves that it dropped.
-use Rattle.std.proofs.Common.{◌≡◌, ℕ, ◌+◌, ◌-◌, ◌<◌, List, [], ◌∷◌, ◌++◌, length, take, drop, sym, ◌∙◌, ap, refl, arith}
+use Rattle.std.proofs.Common.{◌≡◌, ℕ, ◌+◌, ◌-◌, List, [], ◌∷◌, ◌++◌, take, drop, sym, ◌∙◌, ap, refl, arith}
 use Rattle.std.specs.List.{flat_map}
-use Rattle.std.proofs.lemmas.List.{length-drop, drop_more, take_more, append-nil, take-append-drop, take-take, drop-take}
+use Rattle.std.proofs.lemmas.List.{append-nil, take-append-drop, take-take, drop-take}
 use Rattle.std.proofs.lemmas.List.Concat.{flat_map-append}
 use Rattle.facet_leaf.specs.LeafModel.{LeafModel}
 use Rattle.facet_session.specs.Interpreter.{State, Turn, first_state}
 use Rattle.facet_session.specs.Script.{turns, state_after, answer_line, after, answers}
+use Rattle.facet_base.proofs.Lists.{next_at}
 use Rattle.facet_base.specs.Output.{IsPrefix}
 use Rattle.facet_script.specs.Run.{last_dropped}
-
-pub next_at : {A : Type 0} (xs : List A) (k : ℕ) (x : A) (ys : List A) → drop k xs ≡ x ∷ ys → (take (k + 1) xs ≡ take k xs ++ x ∷ []) × (drop (k + 1) xs ≡ ys)
-next_at xs k x ys e =
-    let within : k < length xs = omega (arith, length-drop k xs, ap length e) in
-    let more = sym (drop_more xs k x within) ∙ e in
-    let last = take_more xs k x within in
-    (cc, cc)
 
 state_after_more : {L : Type 0} (state : State L) (steps : List (Turn L)) (turn : Turn L) → state_after state (steps ++ turn ∷ []) ≡ turn.state
 state_after_more state [] turn = refl

@@ -1,13 +1,14 @@
 -- Each leaf that a run makes is held or dropped, and the last step drops what is held.
 use Rattle.std.proofs.Common.{◌≡◌, ℕ, ◌+◌, List, [], ◌∷◌, length, take, zero, suc, Bool, refl, arith, count_by}
 use Rattle.std.specs.List.{flat_map}
+use Rattle.facet_base.proofs.Lists.{count_by_append}
 use Rattle.facet_leaf.specs.LeafModel.{LeafModel}
 use Rattle.facet_session.specs.Interpreter.{first_state, next, last}
 use Rattle.facet_session.specs.Script.{lines, turns_from, state_after, after, made, dropped, Balances}
 use Rattle.facet_session.specs.State.{State, leaves_of_entries}
 use Rattle.facet_session.specs.Turn.{Turn}
 use Rattle.facet_session.proofs.InterpreterLaws.{next_laws, last_laws}
-use Rattle.facet_session.proofs.TurnLaws.{TurnLaws, count_more}
+use Rattle.facet_session.proofs.TurnLaws.{TurnLaws}
 
 -- what steps made and what was there before is what they dropped and what is there after
 abbrev Keeps : {L : Type 0} → (L → Bool) → State L → List (Turn L) → Type 0
@@ -17,7 +18,7 @@ Keeps p state steps =
 
 step_keeps : {L : Type 0} (p : L → Bool) (state : State L) (turn : Turn L) (steps : List (Turn L)) → TurnLaws state turn → Keeps p turn.state steps → Keeps p state (turn ∷ steps)
 step_keeps p state turn steps laws rest =
-    omega (arith, laws.balance p, rest, count_more p turn.made (flat_map (λ t. t.made) steps), count_more p turn.dropped (flat_map (λ t. t.dropped) steps))
+    omega (arith, laws.balance p, rest, count_by_append p turn.made (flat_map (λ t. t.made) steps), count_by_append p turn.dropped (flat_map (λ t. t.dropped) steps))
 
 run_keeps : {L : Type 0} (m : LeafModel L) (p : L → Bool) (state : State L) (rest : List (List ℕ)) (k : ℕ) → Keeps p state (take k (turns_from m state rest))
 run_keeps m p state rest zero = omega arith

@@ -1,20 +1,15 @@
--- A walk that ends the values of cells, one after another.
-use Rattle.std.proofs.Common.{◌≡◌, ℕ, zero, suc, ◌+◌, List, [], ◌∷◌, ◌++◌, drop, slice_get, slice_set, Some, refl, sym, ap, ◌∙◌, arith, append_assoc}
+-- A walk that drops the values of cells, one after another.
+use Rattle.std.proofs.Common.{◌≡◌, ℕ, ◌+◌, List, ◌∷◌, ◌++◌, drop, slice_get, slice_set, Some, sym, ap, ◌∙◌, arith, append_assoc}
 use Rattle.std.proofs.lemmas.List.{drop-drop, drop-set-lt, drop_more}
 use Rattle.std.proofs.lemmas.Option.{slice_get_within, get_or_from_slice_get}
+use Rattle.facet_base.proofs.Lists.{slice_get_drop}
 use Rattle.facet_shapes.specs.Registry.{Registry}
 use Rattle.facet_session.specs.declared.session.Cell.{Cell}
 use Rattle.facet_session.specs.Stored.{stored_in, stored_in_all}
 
-slice_get-drop : {A : Type 0} (xs : List A) (i : ℕ) → slice_get xs i ≡ slice_get (drop i xs) 0
-slice_get-drop [] zero = refl
-slice_get-drop [] (suc i) = refl
-slice_get-drop (x ∷ xs) zero = refl
-slice_get-drop (x ∷ xs) (suc i) = slice_get-drop xs i
-
--- two lists that are one from place i on have the same there
+-- two lists that are one from index i on have the same there
 pub same_at : {A : Type 0} (xs ys : List A) (i : ℕ) (x : A) → drop i xs ≡ drop i ys → Some x ≡ slice_get xs i → slice_get ys i ≡ Some x
-same_at xs ys i x rest here = slice_get-drop ys i ∙ ap (λ zs. slice_get zs 0) (sym rest) ∙ sym (slice_get-drop xs i) ∙ sym here
+same_at xs ys i x rest here = slice_get_drop ys i ∙ ap (λ zs. slice_get zs 0) (sym rest) ∙ sym (slice_get_drop xs i) ∙ sym here
 
 -- the lists are still one past that index, whatever is put there
 pub same_behind : {A : Type 0} (xs ys : List A) (i : ℕ) (x : A) → drop i xs ≡ drop i ys → drop (i + 1) (slice_set xs i x) ≡ drop (i + 1) ys

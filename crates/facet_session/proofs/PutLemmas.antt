@@ -4,6 +4,7 @@ use Rattle.std.specs.List.{list_any}
 use Rattle.std.proofs.lemmas.Bool.{leb-false, not-false}
 use Rattle.std.proofs.lemmas.List.{append-nil}
 use Rattle.std.proofs.lemmas.List.Concat.{flat_map-append}
+use Rattle.facet_base.proofs.Lists.{count_by_append}
 use Rattle.facet_base.specs.declared.characteristic.Characteristic.TheVariants as characteristic
 use Rattle.facet_leaf.specs.LeafLaws.{LeafLaws}
 use Rattle.facet_leaf.specs.LeafModel.{LeafModel}
@@ -26,7 +27,7 @@ use Rattle.facet_session.specs.State.{Entry, State, leaves_of_entries}
 use Rattle.facet_session.specs.Turn.{refused, refused_or, listed}
 use Rattle.facet_session.specs.commands.Put.{conditions, parsed_as, add_parsed, put, is_scalar}
 use Rattle.facet_session.proofs.ShownSessions.{show_more, taken_shown}
-use Rattle.facet_session.proofs.TurnLaws.{TurnLaws, count_more, one_line, refused_laws, refused_or_laws}
+use Rattle.facet_session.proofs.TurnLaws.{TurnLaws, one_line, refused_laws, refused_or_laws}
 use Rattle.facet_session.proofs.TurnLemmas.{none_holds}
 
 -- a shape that no condition refuses is sealed, and its record has parse
@@ -104,7 +105,7 @@ add_parsed_laws {L} state name s (Some x) =
     let entry : Entry L = record { name = name; shape = s; value = leaf x } in
     record {
       balance = λ p.
-          let more = ap (count_by p) (flat_map-append (λ (e : Entry L). leaves e.value) state.entries (entry ∷ [])) ∙ count_more p (leaves_of_entries state.entries) (x ∷ []) in
+          let more = ap (count_by p) (flat_map-append (λ (e : Entry L). leaves e.value) state.entries (entry ∷ [])) ∙ count_by_append p (leaves_of_entries state.entries) (x ∷ []) in
           omega (arith, more);
       words = one_line (codes "ok") refl;
     }

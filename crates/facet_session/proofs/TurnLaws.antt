@@ -1,10 +1,9 @@
 -- What holds of the turn of every command, whatever the state.
-use Rattle.std.proofs.Common.{◌≡◌, ℕ, ◌+◌, List, [], ◌∷◌, ◌++◌, Bool, true, cond, not, nat_eq, Option, Some, None, refl, arith, count_by}
+use Rattle.std.proofs.Common.{◌≡◌, ℕ, ◌+◌, List, [], ◌∷◌, Bool, true, not, nat_eq, Option, Some, None, refl, arith, count_by}
 use Rattle.std.specs.List.{list_all, AllByRecursion}
 use Rattle.std.proofs.lemmas.Bool.{and_parts}
 use Rattle.std.proofs.lemmas.Bool.Decides.{nat_tests}
 use Rattle.std.proofs.lemmas.List.Elements.{All-from_recursion}
-use Rattle.std.proofs.lemmas.List.Sums.{sum_by-append}
 use Rattle.facet_leaf.specs.OneLine.{IsOneLine}
 use Rattle.facet_session.specs.declared.refusal.Refusal.{Refusal}
 use Rattle.facet_session.specs.declared.refusal.Refusal.TheVariants.{Syntax, NoSuchShape, Taken, WrongShape, BadText, Unsupported}
@@ -16,9 +15,6 @@ use Rattle.facet_session.specs.Turn.{Turn, refused, refused_or}
 pub record TurnLaws {L : Type 0} (state : State L) (turn : Turn L) : Type 0 where
   pub balance : (p : L → Bool) → count_by p (leaves_of_entries state.entries) + count_by p turn.made ≡ count_by p turn.dropped + count_by p (leaves_of_entries turn.state.entries)
   pub words : IsOneLine turn.words
-
-pub count_more : {L : Type 0} (p : L → Bool) (xs ys : List L) → count_by p (xs ++ ys) ≡ count_by p xs + count_by p ys
-count_more p xs ys = sum_by-append (λ y. cond (p y) 1 0) xs ys
 
 no_newline : (bytes : List ℕ) → list_all (λ b. not (nat_eq b 10)) bytes ≡ true → AllByRecursion (λ b. b ≡ 10 → ⊥) bytes
 no_newline [] all = tt
