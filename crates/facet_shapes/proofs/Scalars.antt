@@ -1,5 +1,5 @@
 -- The shape of a scalar, as it is built.
-use Rattle.std.proofs.Common.{◌≡◌, ℕ, List, [], Option, None, Some, option_map, refl, sym, ap, ◌∙◌}
+use Rattle.std.proofs.Common.{◌≡◌, ℕ, [], Option, None, Some, option_map, refl, ap, ◌∙◌}
 use Rattle.std.specs.Option.{option_or}
 use Rattle.facet_base.specs.Fnv.{fnv, fnv_start}
 use Rattle.facet_base.specs.ScalarType.{identifier_of}
