@@ -1,67 +1,38 @@
-use super::{attribute, list_of_one};
+use super::{list_of_one, one_attribute, true_at};
 use crate::{
-    DefaultSource, EnumRepr, EnumTypeBuilder, Field, FieldBuilder, Repr, StructKind, StructType,
-    StructTypeBuilder, Variant, VariantBuilder,
+    Attr, DefaultSource, EnumRepr, EnumType, EnumTypeBuilder, Field, FieldBuilder, Repr,
+    StructKind, StructType, Variant, VariantBuilder,
 };
-use facet_base::{FieldFlags, Flags, HookId, Many, ShapeId, Text};
+use facet_base::{FieldFlags, HookId, Many, ShapeId, Text};
 use std::alloc::{AllocError, Global};
 use std::test::Fail;
 
-// Whether it has a new name, an alias, attributes, a description, metadata of the kind `span`, a default value.
-fn set_members(field: &Field) -> [bool; 6] {
-    [
-        field.rename.is_some(),
-        field.alias.is_some(),
-        field.attributes.len() > 0,
-        field.doc.len() > 0,
-        field.is_metadata() && field.metadata_kind() == Some("span"),
-        field.has_default(),
-    ]
+// One attribute, and one line of description.
+fn lists(alloc: Global) -> Result<(Many<Attr>, Many<Text>), AllocError> {
+    let attributes = one_attribute(alloc, None, "k")?;
+    let doc = list_of_one(alloc, Text::new(alloc, " A line.")?)?;
+    Ok((attributes, doc))
 }
 
-// The hook that makes the default value, or 0 where its type makes it.
-fn default_hook(field: &Field) -> Option<u32> {
-    match field.default_source()? {
-        DefaultSource::FromTrait => Some(0),
-        DefaultSource::Custom(hook) => Some(hook.0),
-    }
+// A new name, an alias and a kind of metadata.
+fn texts(alloc: Global) -> Result<(Text, Text, Text), AllocError> {
+    let rename = Text::new(alloc, "b")?;
+    let alias = Text::new(alloc, "c")?;
+    Ok((rename, alias, Text::new(alloc, "span")?))
 }
 
-// The hooks that a field was given.
-fn hooks(field: &Field) -> [Option<u32>; 3] {
-    [
-        field.skip_serializing_if.map(|hook| hook.0),
-        field.invariants.map(|hook| hook.0),
-        default_hook(field),
-    ]
-}
-
-// Whether it goes by a name; its shape, offset and flags; the members and the hooks that are set.
-fn summary(field: Field, name: &str) -> (bool, (ShapeId, usize, u16), [bool; 6], [Option<u32>; 3]) {
-    let numbers = (field.shape(), field.offset, field.flags.bits());
-    let is_named = field.effective_name() == name;
-    (is_named, numbers, set_members(&field), hooks(&field))
-}
-
-#[test]
-fn a_field_begins_with_name_shape_and_offset_alone(rt: HostRuntime) -> Result<(), Fail> {
-    let alloc = rt.alloc();
-    let (name, lazy_name) = (Text::new(alloc, "a")?, Text::new(alloc, "a")?);
-    let fresh = summary(FieldBuilder::new(alloc, name, ShapeId(6), 8).build(), "a");
-    let lazy = FieldBuilder::new_lazy(alloc, lazy_name, ShapeId(6), 8).build();
-    let expected = (true, (ShapeId(6), 8, 0), [false; 6], [None; 3]);
-    assert_eq!(rt; [fresh, summary(lazy, "a")], [expected; 2]);
-    Ok(())
+// A field of which nothing but a default value is set, which its type makes.
+fn fresh_field(alloc: Global) -> Result<Field, AllocError> {
+    let name = Text::new(alloc, "a")?;
+    let builder = FieldBuilder::new_lazy(alloc, name, ShapeId(6), 8);
+    Ok(builder.default_from_trait().build())
 }
 
 // A field of which every member but flags and proxies is set.
 fn full_field(alloc: Global) -> Result<Field, AllocError> {
     let name = Text::new(alloc, "a")?;
-    let rename = Text::new(alloc, "b")?;
-    let alias = Text::new(alloc, "c")?;
-    let metadata = Text::new(alloc, "span")?;
-    let attributes = list_of_one(alloc, attribute(alloc, None, "k", 0)?)?;
-    let doc = list_of_one(alloc, Text::new(alloc, " A field.")?)?;
+    let (rename, alias, metadata) = texts(alloc)?;
+    let (attributes, doc) = lists(alloc)?;
     let builder = FieldBuilder::new(alloc, name, ShapeId(6), 8)
         .rename(rename)
         .alias(alias)
@@ -74,78 +45,131 @@ fn full_field(alloc: Global) -> Result<Field, AllocError> {
     Ok(builder.build())
 }
 
+// Whether it has metadata of a kind.
+fn has_kind(field: &Field, kind: &str) -> bool {
+    match field.metadata_kind() {
+        Some(metadata) => metadata == kind,
+        None => false,
+    }
+}
+
+// Whether a field has: a name that it goes by, the shape, the offset and no flags; then a new name, an alias,
+// metadata, metadata of the kind `span`, an attribute, a line of description.
+fn members(field: &Field, name: &str) -> [bool; 10] {
+    [
+        field.effective_name() == name,
+        field.shape() == ShapeId(6),
+        field.offset == 8,
+        field.flags.bits == 0,
+        field.rename.is_some(),
+        field.alias.is_some(),
+        field.is_metadata(),
+        has_kind(field, "span"),
+        field.attributes.len() == 1,
+        field.doc.len() == 1,
+    ]
+}
+
+fn hook_number(hook: Option<HookId>) -> u32 {
+    match hook {
+        Some(hook) => hook.0,
+        None => 0,
+    }
+}
+
+// The hook that makes the default value, 1 where its type makes it, and 0 where it has none.
+fn default_number(field: &Field) -> u32 {
+    match field.default_source() {
+        Some(DefaultSource::Custom(hook)) => hook.0,
+        Some(DefaultSource::FromTrait) => 1,
+        None => 0,
+    }
+}
+
+// The hooks that it was given, and the default value.
+fn hooks(field: &Field) -> [u32; 3] {
+    [
+        hook_number(field.skip_serializing_if),
+        hook_number(field.invariants),
+        default_number(field),
+    ]
+}
+
+type Summary = ([bool; 10], [u32; 3]);
+
+fn fresh_summary(alloc: Global) -> Result<Summary, AllocError> {
+    let field = fresh_field(alloc)?;
+    Ok((members(&field, "a"), hooks(&field)))
+}
+
+fn full_summary(alloc: Global) -> Result<Summary, AllocError> {
+    let field = full_field(alloc)?;
+    Ok((members(&field, "b"), hooks(&field)))
+}
+
 #[test]
-fn a_field_has_what_was_set(rt: HostRuntime) -> Result<(), Fail> {
-    let full = summary(full_field(rt.alloc())?, "b");
-    let numbers = (ShapeId(6), 8, 0);
-    let hooks = [Some(2), Some(3), Some(4)];
-    assert_eq!(rt; full, (true, numbers, [true; 6], hooks));
-    let name = Text::new(rt.alloc(), "a")?;
-    let builder = FieldBuilder::new(rt.alloc(), name, ShapeId(6), 8);
-    let by_type = summary(builder.default_from_trait().build(), "a");
-    let set = [false, false, false, false, false, true];
-    assert_eq!(rt; by_type, (true, numbers, set, [None, None, Some(0)]));
+fn a_field_has_what_was_set_and_nothing_else(rt: HostRuntime) -> Result<(), Fail> {
+    let (members, hooks) = fresh_summary(rt.alloc())?;
+    let named = [
+        true, true, true, true, false, false, false, false, false, false,
+    ];
+    assert!(rt; members == named);
+    assert!(rt; hooks == [0, 0, 1]);
+    let (members, hooks) = full_summary(rt.alloc())?;
+    assert!(rt; members == [true; 10]);
+    assert!(rt; hooks == [2, 3, 4]);
     Ok(())
 }
 
-// What a field with flags answers: is_flattened, is_sensitive, is_child, is_recursive_type,
-// should_skip_deserializing and should_skip_serializing_unconditional.
-fn flag_answers(alloc: Global, flags: FieldFlags) -> Result<[bool; 6], AllocError> {
-    let name = Text::new(alloc, "a")?;
-    let field = FieldBuilder::new(alloc, name, ShapeId(6), 8)
-        .flags(flags)
-        .build();
-    Ok([
+// What a field answers by its flags, and in the last three places by its other members.
+fn flag_answers(field: &Field) -> [bool; 9] {
+    [
         field.is_flattened(),
         field.is_sensitive(),
         field.is_child(),
         field.is_recursive_type(),
         field.should_skip_deserializing(),
         field.should_skip_serializing_unconditional(),
-    ])
+        field.has_default(),
+        field.is_metadata(),
+        field.has_any_proxy(),
+    ]
+}
+
+// The same of a field of which only the flags are set.
+fn answers_to(alloc: Global, flags: FieldFlags) -> Result<[bool; 9], AllocError> {
+    let name = Text::new(alloc, "a")?;
+    let builder = FieldBuilder::new(alloc, name, ShapeId(6), 8);
+    Ok(flag_answers(&builder.flags(flags).build()))
+}
+
+// Flags, and the indices of what alone holds of a field that has them; at an index of 9 there is none.
+fn flag_rows() -> [(FieldFlags, usize, usize); 8] {
+    [
+        (FieldFlags { bits: 0 }, 9, 9),
+        (FieldFlags::FLATTEN, 0, 9),
+        (FieldFlags::SENSITIVE, 1, 9),
+        (FieldFlags::CHILD, 2, 9),
+        (FieldFlags::RECURSIVE_TYPE, 3, 9),
+        (FieldFlags::SKIP_DESERIALIZING, 4, 9),
+        (FieldFlags::SKIP_SERIALIZING, 5, 9),
+        (FieldFlags::SKIP, 4, 5),
+    ]
 }
 
 #[test]
 fn a_field_answers_by_its_flags(rt: HostRuntime) -> Result<(), Fail> {
-    for (flags, expected) in [
-        (
-            FieldFlags::empty(),
-            [false, false, false, false, false, false],
-        ),
-        (
-            FieldFlags::FLATTEN,
-            [true, false, false, false, false, false],
-        ),
-        (
-            FieldFlags::SENSITIVE,
-            [false, true, false, false, false, false],
-        ),
-        (FieldFlags::CHILD, [false, false, true, false, false, false]),
-        (
-            FieldFlags::RECURSIVE_TYPE,
-            [false, false, false, true, false, false],
-        ),
-        (
-            FieldFlags::SKIP_DESERIALIZING,
-            [false, false, false, false, true, false],
-        ),
-        (
-            FieldFlags::SKIP_SERIALIZING,
-            [false, false, false, false, false, true],
-        ),
-        (FieldFlags::SKIP, [false, false, false, false, true, true]),
-    ] {
-        assert_eq!(rt; flag_answers(rt.alloc(), flags)?, expected, "{flags:?}");
+    for (flags, first, second) in flag_rows() {
+        assert!(rt; answers_to(rt.alloc(), flags)? == true_at(first, second));
     }
     Ok(())
 }
 
-// A variant with one field of which every member is set.
+// A variant of which every member is set, with one field.
 fn tuple_variant(alloc: Global) -> Result<Variant, AllocError> {
     let (name, rename) = (Text::new(alloc, "A")?, Text::new(alloc, "b")?);
-    let attributes = list_of_one(alloc, attribute(alloc, None, "k", 0)?)?;
-    let doc = list_of_one(alloc, Text::new(alloc, " A variant.")?)?;
-    let fields = list_of_one(alloc, full_field(alloc)?)?;
+    let (attributes, doc) = lists(alloc)?;
+    let fields = list_of_one(alloc, fresh_field(alloc)?)?;
     let builder = VariantBuilder::tuple(alloc, name, fields)
         .rename(rename)
         .attributes(attributes)
@@ -154,82 +178,83 @@ fn tuple_variant(alloc: Global) -> Result<Variant, AllocError> {
     Ok(builder.build())
 }
 
-type Body = (StructKind, Repr, usize);
+// Whether it goes by a name; how many fields, attributes and lines of description it has; its body's kind and
+// representation; and its discriminant.
+type VariantSummary = (bool, [usize; 3], StructKind, Repr, Option<i64>);
 
-// Whether it goes by a name; its body's kind, representation and number of fields; its discriminant, and how many
-// attributes and lines of description it has.
-fn variant_summary(variant: Variant, name: &str) -> (bool, Body, (Option<i64>, usize, usize)) {
-    let body = &variant.body;
-    let body = (body.kind, body.repr, body.fields.len());
-    let set = (
-        variant.discriminant,
+fn summary(variant: &Variant, name: &str) -> VariantSummary {
+    let counts = [
+        variant.body.fields.len(),
         variant.attributes.len(),
         variant.doc.len(),
-    );
-    (variant.effective_name() == name, body, set)
+    ];
+    let is_named = variant.effective_name() == name;
+    let (kind, repr) = (variant.body.kind, variant.body.repr);
+    (is_named, counts, kind, repr, variant.discriminant)
+}
+
+fn unit_summary(alloc: Global) -> Result<VariantSummary, AllocError> {
+    let name = Text::new(alloc, "A")?;
+    Ok(summary(&VariantBuilder::unit(alloc, name).build(), "A"))
+}
+
+fn tuple_summary(alloc: Global) -> Result<VariantSummary, AllocError> {
+    Ok(summary(&tuple_variant(alloc)?, "b"))
 }
 
 #[test]
 fn a_variant_has_its_body_and_what_was_set(rt: HostRuntime) -> Result<(), Fail> {
-    let name = Text::new(rt.alloc(), "A")?;
-    let unit = variant_summary(VariantBuilder::unit(rt.alloc(), name).build(), "A");
-    let body = (StructKind::Unit, Repr::C, 0);
-    assert_eq!(rt; unit, (true, body, (None, 0, 0)));
-    let tuple = variant_summary(tuple_variant(rt.alloc())?, "b");
-    let body = (StructKind::TupleStruct, Repr::RUST, 1);
-    assert_eq!(rt; tuple, (true, body, (Some(-1), 1, 1)));
+    let unit = unit_summary(rt.alloc())?;
+    assert!(rt; unit == (true, [0; 3], StructKind::Unit, Repr::C, None));
+    let tuple = tuple_summary(rt.alloc())?;
+    assert!(rt; tuple == (true, [1; 3], StructKind::TupleStruct, Repr::RUST, Some(-1)));
     Ok(())
 }
 
-#[test]
-fn a_struct_begins_in_the_representation_of_c(rt: HostRuntime) {
-    let fresh = StructTypeBuilder::new(StructKind::Tuple, Many::new(rt.alloc())).build();
-    assert_eq!(rt; (fresh.repr, fresh.kind), (Repr::C, StructKind::Tuple));
-    let builder = StructTypeBuilder::new(StructKind::Struct, Many::new(rt.alloc()));
-    let set = builder.repr(Repr::TRANSPARENT).build();
-    assert_eq!(rt;
-        (set.repr, set.kind),
-        (Repr::TRANSPARENT, StructKind::Struct)
-    );
+fn numbered_variant(alloc: Global, name: &str, discriminant: i64) -> Result<Variant, AllocError> {
+    let name = Text::new(alloc, name)?;
+    let builder = VariantBuilder::new(alloc, name, StructType::unit(alloc));
+    Ok(builder.discriminant(discriminant).build())
 }
 
-// Variants of these names, whose discriminants count from 1.
-fn variants(alloc: Global, names: &[&str]) -> Result<Many<Variant>, AllocError> {
+// Two variants of each name.
+fn cow_variants(alloc: Global) -> Result<Many<Variant>, AllocError> {
     let mut variants = Many::new(alloc);
-    for (discriminant, name) in (1..).zip(names) {
-        let name = Text::new(alloc, name)?;
-        let builder = VariantBuilder::new(alloc, name, StructType::unit(alloc));
-        variants.push(builder.discriminant(discriminant).build())?;
+    for (name, discriminant) in [("Borrowed", 1), ("Owned", 2), ("Owned", 3), ("Borrowed", 4)] {
+        variants.push(numbered_variant(alloc, name, discriminant)?)?;
     }
     Ok(variants)
-}
-
-// The representation of an enum with two variants of each name, and the discriminants of the borrowed and the
-// owned one.
-fn cow_answers(alloc: Global, cow: bool) -> Result<(Repr, [Option<i64>; 2]), AllocError> {
-    let variants = variants(alloc, &["Borrowed", "Owned", "Owned", "Borrowed"])?;
-    let builder = EnumTypeBuilder::new(EnumRepr::U8, variants);
-    let enum_type = if cow {
-        builder.repr(Repr::RUST).cow().build()
-    } else {
-        builder.build()
-    };
-    let found = [
-        discriminant_of(enum_type.borrowed_variant()),
-        discriminant_of(enum_type.owned_variant()),
-    ];
-    Ok((enum_type.repr, found))
 }
 
 fn discriminant_of(variant: Option<&Variant>) -> Option<i64> {
     variant?.discriminant
 }
 
+// An enum's representation, and the discriminants of its borrowed and its owned variant.
+fn parts(enum_type: &EnumType) -> (Repr, [Option<i64>; 2]) {
+    let borrowed = discriminant_of(enum_type.borrowed_variant());
+    let owned = discriminant_of(enum_type.owned_variant());
+    (enum_type.repr, [borrowed, owned])
+}
+
+// The same of an enum of these variants, whose values are borrowed or owned, or aren't.
+fn parts_of(variants: Many<Variant>, cow: bool) -> (Repr, [Option<i64>; 2]) {
+    let builder = EnumTypeBuilder::new(EnumRepr::U8, variants);
+    let enum_type = if cow {
+        builder.repr(Repr::RUST).cow().build()
+    } else {
+        builder.build()
+    };
+    parts(&enum_type)
+}
+
 #[test]
 fn an_enum_has_its_two_variants_where_it_is_borrowed_or_owned(rt: HostRuntime) -> Result<(), Fail> {
-    let fresh = cow_answers(rt.alloc(), false)?;
-    assert_eq!(rt; fresh, (Repr::C, [None, None]));
-    let cow = cow_answers(rt.alloc(), true)?;
-    assert_eq!(rt; cow, (Repr::RUST, [Some(1), Some(2)]));
+    let (repr, found) = parts_of(cow_variants(rt.alloc())?, false);
+    assert!(rt; repr == Repr::C);
+    assert!(rt; found == [None, None]);
+    let (repr, found) = parts_of(cow_variants(rt.alloc())?, true);
+    assert!(rt; repr == Repr::RUST);
+    assert!(rt; found == [Some(1), Some(2)]);
     Ok(())
 }

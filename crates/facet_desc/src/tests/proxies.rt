@@ -3,20 +3,19 @@ use facet_base::{HookId, Many, ShapeId, Text};
 use std::alloc::{AllocError, Global};
 use std::test::Fail;
 
-const GENERAL: ProxyDef = ProxyDef {
-    shape: ShapeId(1),
-    convert_in: HookId(10),
-    convert_out: HookId(11),
-};
+// The proxy of a shape.
+fn proxy(shape: u32) -> ProxyDef {
+    ProxyDef {
+        shape: ShapeId(shape),
+        convert_in: HookId(10),
+        convert_out: HookId(11),
+    }
+}
 
 fn format_proxy(alloc: Global, format: &str, shape: u32) -> Result<FormatProxy, AllocError> {
-    let proxy = ProxyDef {
-        shape: ShapeId(shape),
-        ..GENERAL
-    };
     Ok(FormatProxy {
         format: Text::new(alloc, format)?,
-        proxy,
+        proxy: proxy(shape),
     })
 }
 
@@ -24,89 +23,97 @@ fn format_proxy(alloc: Global, format: &str, shape: u32) -> Result<FormatProxy, 
 fn listed_proxies(alloc: Global, listed: bool) -> Result<Many<FormatProxy>, AllocError> {
     let mut proxies = Many::new(alloc);
     if listed {
-        proxies.push(format_proxy(alloc, "json", 2)?)?;
-        proxies.push(format_proxy(alloc, "xml", 3)?)?;
-        proxies.push(format_proxy(alloc, "json", 4)?)?;
+        for (format, shape) in [("json", 2), ("xml", 3), ("json", 4)] {
+            proxies.push(format_proxy(alloc, format, shape)?)?;
+        }
     }
     Ok(proxies)
 }
 
-// A field with the general proxy or without, and with the listed ones or without.
+// A field with the general proxy, of the shape 1, or without, and with the listed ones or without.
 fn field_with(alloc: Global, general: bool, listed: bool) -> Result<Field, AllocError> {
     let name = Text::new(alloc, "a")?;
     let proxies = listed_proxies(alloc, listed)?;
     let builder = FieldBuilder::new(alloc, name, ShapeId(6), 0).format_proxies(proxies);
     if general {
-        Ok(builder.proxy(GENERAL).build())
+        Ok(builder.proxy(proxy(1)).build())
     } else {
         Ok(builder.build())
     }
 }
 
-fn shape_of(proxy: Option<&ProxyDef>) -> Option<u32> {
-    Some(proxy?.shape.0)
+// The shape of a proxy, and 0 where there is none.
+fn shape_of(proxy: Option<&ProxyDef>) -> u32 {
+    match proxy {
+        Some(proxy) => proxy.shape.0,
+        None => 0,
+    }
 }
 
-// The shapes of the proxy for a format, which may be no format, and of the one listed for json.
-fn proxy_shapes(
+// The shapes of the proxy for a format, which may be no format, of the one listed for json, and of the general one.
+fn shapes_for(
     alloc: Global,
     general: bool,
     listed: bool,
     format: Option<&str>,
-) -> Result<[Option<u32>; 2], AllocError> {
+) -> Result<[u32; 3], AllocError> {
     let field = field_with(alloc, general, listed)?;
     Ok([
         shape_of(field.effective_proxy(format)),
         shape_of(field.format_proxy("json")),
+        shape_of(field.proxy()),
     ])
+}
+
+// Whether there is a general proxy and there are listed ones, a format, and the shapes for it and for json.
+fn rows() -> [(bool, bool, Option<&'static str>, u32, u32); 9] {
+    [
+        (true, true, None, 1, 2),
+        (true, true, Some("json"), 2, 2),
+        (true, true, Some("xml"), 3, 2),
+        (true, true, Some("toml"), 1, 2),
+        (false, true, None, 0, 2),
+        (false, true, Some("json"), 2, 2),
+        (false, true, Some("toml"), 0, 2),
+        (true, false, Some("json"), 1, 0),
+        (false, false, Some("json"), 0, 0),
+    ]
 }
 
 #[test]
 fn the_first_proxy_for_the_format_goes_before_the_general_one(rt: HostRuntime) -> Result<(), Fail> {
-    for (general, listed, format, expected) in [
-        (true, true, None, [Some(1), Some(2)]),
-        (true, true, Some("json"), [Some(2), Some(2)]),
-        (true, true, Some("xml"), [Some(3), Some(2)]),
-        (true, true, Some("toml"), [Some(1), Some(2)]),
-        (false, true, None, [None, Some(2)]),
-        (false, true, Some("json"), [Some(2), Some(2)]),
-        (false, true, Some("toml"), [None, Some(2)]),
-        (true, false, Some("json"), [Some(1), None]),
-        (false, false, Some("json"), [None, None]),
-    ] {
-        let shapes = proxy_shapes(rt.alloc(), general, listed, format)?;
-        assert_eq!(rt; shapes, expected, "{general} {listed} {format:?}");
+    for (general, listed, format, effective, for_json) in rows() {
+        let shapes = shapes_for(rt.alloc(), general, listed, format)?;
+        let without_format = if general { 1 } else { 0 };
+        assert!(rt; shapes == [effective, for_json, without_format]);
     }
     Ok(())
 }
 
-// The shape and the hooks of the general proxy, where there is one; whether there is one; whether there is any.
-fn general_parts(
-    alloc: Global,
-    general: bool,
-    listed: bool,
-) -> Result<([Option<u32>; 4], [bool; 2]), AllocError> {
+// The shape and the hooks of the general proxy, where there is one; whether there is one, and whether there is any.
+type General = (Option<ShapeId>, [Option<HookId>; 2], [bool; 2]);
+
+fn general_parts(alloc: Global, general: bool, listed: bool) -> Result<General, AllocError> {
     let field = field_with(alloc, general, listed)?;
-    let parts = [
-        shape_of(field.proxy()),
-        field.proxy_shape().map(|shape| shape.0),
-        field.proxy_convert_in_fn().map(|hook| hook.0),
-        field.proxy_convert_out_fn().map(|hook| hook.0),
-    ];
-    Ok((parts, [field.has_proxy(), field.has_any_proxy()]))
+    let hooks = [field.proxy_convert_in_fn(), field.proxy_convert_out_fn()];
+    let there = [field.has_proxy(), field.has_any_proxy()];
+    Ok((field.proxy_shape(), hooks, there))
+}
+
+fn expected_parts(general: bool, listed: bool) -> General {
+    if general {
+        let hooks = [Some(HookId(10)), Some(HookId(11))];
+        (Some(ShapeId(1)), hooks, [true, true])
+    } else {
+        (None, [None, None], [false, listed])
+    }
 }
 
 #[test]
 fn a_field_has_the_proxies_that_were_set(rt: HostRuntime) -> Result<(), Fail> {
-    let general_one = [Some(1), Some(1), Some(10), Some(11)];
-    for (general, listed, parts, there) in [
-        (true, true, general_one, [true, true]),
-        (true, false, general_one, [true, true]),
-        (false, true, [None; 4], [false, true]),
-        (false, false, [None; 4], [false, false]),
-    ] {
-        let found = general_parts(rt.alloc(), general, listed)?;
-        assert_eq!(rt; found, (parts, there), "{general} {listed}");
+    for (general, listed) in [(true, true), (true, false), (false, true), (false, false)] {
+        let parts = general_parts(rt.alloc(), general, listed)?;
+        assert!(rt; parts == expected_parts(general, listed));
     }
     Ok(())
 }

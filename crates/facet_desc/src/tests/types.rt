@@ -1,6 +1,7 @@
 use crate::{
     ArrayType, BaseRepr, EnumRepr, FunctionAbi, FunctionPointerDef, PointerType, PrimitiveType,
-    Repr, SequenceType, SliceType, StructKind, Ty, TypeParam, UserType, ValuePointerType,
+    Repr, SequenceType, SliceType, StructKind, StructTypeBuilder, Ty, TypeParam, UserType,
+    ValuePointerType,
 };
 use facet_base::{Many, ShapeId, Text};
 use std::alloc::Global;
@@ -35,9 +36,13 @@ fn type_at(alloc: Global, index: usize) -> Ty {
     }
 }
 
+fn has_word(alloc: Global, index: usize, word: &str) -> bool {
+    type_at(alloc, index).kind_str() == word
+}
+
 #[test]
 fn each_kind_of_type_has_its_word(rt: HostRuntime) {
-    for (index, expected) in [
+    for (index, word) in [
         (0, "undefined"),
         (1, "primitive"),
         (2, "array"),
@@ -49,33 +54,50 @@ fn each_kind_of_type_has_its_word(rt: HostRuntime) {
         (8, "ptr"),
         (9, "fn"),
     ] {
-        assert_eq!(rt; type_at(rt.alloc(), index).kind_str(), expected);
+        assert!(rt; has_word(rt.alloc(), index, word));
     }
 }
 
 // The representation of a struct or an enum, and none of another type.
-fn repr_of(ty: Ty) -> Option<Repr> {
+fn repr_of(ty: &Ty) -> Option<Repr> {
     match ty {
         Ty::User(user) => user.repr(),
         _ => None,
     }
 }
 
+// The representations of a struct as it begins and of one set to Rust's.
+fn struct_reprs(alloc: Global) -> [Option<Repr>; 2] {
+    let fresh = Ty::struct_builder(StructKind::Struct, Many::new(alloc));
+    let set = Ty::struct_builder(StructKind::Struct, Many::new(alloc)).repr(Repr::RUST);
+    [repr_of(&fresh.build()), repr_of(&set.build())]
+}
+
+// The representations of an enum as it begins and of a transparent one.
+fn enum_reprs(alloc: Global) -> [Option<Repr>; 2] {
+    let fresh = Ty::enum_builder(EnumRepr::U8, Many::new(alloc));
+    let set = Ty::enum_builder(EnumRepr::U8, Many::new(alloc)).repr(Repr::TRANSPARENT);
+    [repr_of(&fresh.build()), repr_of(&set.build())]
+}
+
+// The kind and the representation of a tuple as it begins, and the representation of a transparent one.
+fn tuple_parts(alloc: Global) -> (StructKind, [Repr; 2]) {
+    let fresh = StructTypeBuilder::new(StructKind::Tuple, Many::new(alloc)).build();
+    let builder = StructTypeBuilder::new(StructKind::Tuple, Many::new(alloc));
+    let set = builder.repr(Repr::TRANSPARENT).build();
+    (fresh.kind, [fresh.repr, set.repr])
+}
+
 #[test]
 fn structs_and_enums_have_the_representation_that_was_set(rt: HostRuntime) {
-    let alloc = rt.alloc();
-    let fresh_struct = Ty::struct_builder(StructKind::Struct, Many::new(alloc));
-    assert_eq!(rt; repr_of(fresh_struct.build()), Some(Repr::c()));
-    let struct_type = Ty::struct_builder(StructKind::Struct, Many::new(alloc));
-    assert_eq!(rt;
-        repr_of(struct_type.repr(Repr::RUST).build()),
-        Some(Repr::RUST)
-    );
-    let fresh_enum = Ty::enum_builder(EnumRepr::U8, Many::new(alloc));
-    assert_eq!(rt; repr_of(fresh_enum.build()), Some(Repr::c()));
-    let enum_type = Ty::enum_builder(EnumRepr::U8, Many::new(alloc)).repr(Repr::TRANSPARENT);
-    assert_eq!(rt; repr_of(enum_type.build()), Some(Repr::transparent()));
-    assert_eq!(rt; repr_of(Ty::User(UserType::Opaque)), None);
+    let structs = struct_reprs(rt.alloc());
+    assert!(rt; structs == [Some(Repr::c()), Some(Repr::RUST)]);
+    let enums = enum_reprs(rt.alloc());
+    assert!(rt; enums == [Some(Repr::c()), Some(Repr::transparent())]);
+    let (kind, reprs) = tuple_parts(rt.alloc());
+    assert!(rt; kind == StructKind::Tuple);
+    assert!(rt; reprs == [Repr::C, Repr::TRANSPARENT]);
+    assert!(rt; repr_of(&Ty::User(UserType::Opaque)).is_none());
 }
 
 fn default_of<T: Default>() -> T {
@@ -84,13 +106,13 @@ fn default_of<T: Default>() -> T {
 
 #[test]
 fn the_defaults_are_those_of_rust(rt: HostRuntime) {
-    assert_eq!(rt; default_of::<BaseRepr>(), BaseRepr::Rust);
-    assert_eq!(rt; default_of::<FunctionAbi>(), FunctionAbi::Rust);
+    assert!(rt; default_of::<BaseRepr>() == BaseRepr::Rust);
+    assert!(rt; default_of::<FunctionAbi>() == FunctionAbi::Rust);
     let unpacked = Repr {
         base: BaseRepr::Rust,
         packed: false,
     };
-    assert_eq!(rt; default_of::<Repr>(), unpacked);
+    assert!(rt; default_of::<Repr>() == unpacked);
 }
 
 #[test]
@@ -105,11 +127,7 @@ fn a_discriminant_of_one_two_four_or_eight_bytes_is_unsigned(rt: HostRuntime) {
         (8, Some(EnumRepr::U64)),
         (16, None),
     ] {
-        assert_eq!(rt;
-            EnumRepr::from_discriminant_size(size).ok(),
-            expected,
-            "{size}"
-        );
+        assert!(rt; EnumRepr::from_discriminant_size(size).ok() == expected);
     }
 }
 
@@ -120,14 +138,14 @@ fn each_way_to_call_has_its_name(rt: HostRuntime) {
         (FunctionAbi::Rust, Some("Rust")),
         (FunctionAbi::Unknown, None),
     ] {
-        assert_eq!(rt; abi.as_abi_str(), expected);
+        assert!(rt; abi.as_abi_str() == expected);
     }
 }
 
 #[test]
 fn parameters_and_pointers_have_their_shapes(rt: HostRuntime) -> Result<(), Fail> {
     let name = Text::new(rt.alloc(), "T")?;
-    let parameter = TypeParam { name, shape: SHAPE };
-    assert_eq!(rt; (parameter.shape(), pointer().target()), (SHAPE, SHAPE));
+    let shape = TypeParam { name, shape: SHAPE }.shape();
+    assert!(rt; (shape, pointer().target()) == (SHAPE, SHAPE));
     Ok(())
 }
