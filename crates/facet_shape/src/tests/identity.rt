@@ -21,8 +21,12 @@ fn hash_of<T: Hash>(value: &T) -> u64 {
     state.finish()
 }
 
-fn order_of<T: Ord>(first: &T, second: &T) -> (bool, Ordering) {
-    (first < second, first.cmp(second))
+fn is_below<T: PartialOrd>(first: &T, second: &T) -> bool {
+    first < second
+}
+
+fn order_of<T: Ord>(first: &T, second: &T) -> Ordering {
+    first.cmp(second)
 }
 
 // Whether two shapes are one, are equal and hash alike, whether the first is below the second, and how they are
@@ -32,7 +36,7 @@ fn compared(first: &Shape, second: &Shape) -> (bool, bool, bool, (bool, Ordering
         first.is_shape(second) && first.assert_shape(second).is_ok(),
         first == second,
         hash_of(first) == hash_of(second),
-        order_of(first, second),
+        (is_below(first, second), order_of(first, second)),
     )
 }
 
