@@ -14,53 +14,9 @@ use facet_shape::{Shape, ShapeBuilder};
 use std::alloc::{AllocError, Global};
 use std::test::Fail;
 
-fn builder(alloc: Global) -> Result<ShapeBuilder, AllocError> {
-    let layout = Layout { size: 8, align: 8 };
-    Ok(ShapeBuilder::for_sized(alloc, Text::new(alloc, "T")?, layout))
-}
-
-fn pointer(known: KnownPointer, pointee: u32) -> Def {
-    Def::Pointer(PointerDef {
-        vtable: PointerVTable::new(),
-        pointee: Some(ShapeId(pointee)),
-        weak: None,
-        strong: None,
-        flags: PointerFlags::empty(),
-        known: Some(known),
-    })
-}
-
-// The id under which a shape is added, where it is one.
-fn push(shapes: &mut Shapes<Scalar>, builder: ShapeBuilder) -> Result<Option<u32>, AllocError> {
-    match builder.build() {
-        Ok(shape) if shapes.len() < 100 => Ok(Some(shapes.push(shape)?.0)),
-        _ => Ok(None),
-    }
-}
-
-// The kind of the shape of an id, where there is one.
-fn kind(shapes: &Shapes<Scalar>, id: u32) -> Option<ValueKind> {
-    if (id as usize) < shapes.len() {
-        Some(shapes.kind_of(ShapeId(id)))
-    } else {
-        None
-    }
-}
-
-// The module of the shape of an id, and whether its values are copied bit by bit.
-fn module(shapes: &Shapes<Scalar>, id: u32) -> Option<(&str, bool)> {
-    let shape = shapes.get(ShapeId(id))?;
-    let module = match &shape.module_path {
-        Some(path) => path.as_str(),
-        None => "",
-    };
-    Some((module, shape.marker_traits.contains(MarkerTraits::COPY)))
-}
-
-#[test]
-fn the_sixteen_scalars_have_their_names_layouts_and_modules(rt: HostRuntime) -> Result<(), Fail> {
-    let shapes: Shapes<Scalar> = Shapes::prelude(rt.alloc())?;
-    for (id, name, size, align, module_path) in [
+// The sixteen scalars: the id, the name, the size, the alignment and the module.
+fn scalars() -> [(u32, &'static str, usize, usize, &'static str); 16] {
+    [
         (0, "()", 0, 1, ""),
         (1, "bool", 1, 1, ""),
         (2, "char", 4, 4, ""),
@@ -77,97 +33,183 @@ fn the_sixteen_scalars_have_their_names_layouts_and_modules(rt: HostRuntime) -> 
         (13, "i64", 8, 8, ""),
         (14, "i128", 16, 16, ""),
         (15, "isize", 8, 8, ""),
-    ] {
-        let shape = shapes.get(ShapeId(id));
-        let layout = ShapeLayout::Sized(Layout { size, align });
-        assert_eq!(rt; shape.map(Shape::effective_name), Some(name));
-        assert_eq!(rt; shape.map(|shape| shape.layout), Some(layout));
-        assert_eq!(rt; shapes.size_of(ShapeId(id)), size);
-        assert_eq!(rt; module(&shapes, id), Some((module_path, module_path == "")));
+    ]
+}
+
+// Whether it has this name and layout, and its module, where values with none are copied bit by bit.
+fn is_as_listed(shape: &Shape, name: &str, layout: Layout, path: &str) -> bool {
+    let module = match &shape.module_path {
+        Some(module) => module.as_str(),
+        None => "",
+    };
+    shape.effective_name() == name
+        && shape.layout == ShapeLayout::Sized(layout)
+        && module == path
+        && shape.marker_traits.contains(MarkerTraits::COPY) == path.is_empty()
+}
+
+// The first id whose shape is not as the list of scalars says.
+fn first_unlisted(shapes: &Shapes<Scalar>) -> Option<u32> {
+    for (id, name, size, align, path) in scalars() {
+        let is_listed = match shapes.get(ShapeId(id)) {
+            Some(shape) => is_as_listed(shape, name, Layout { size, align }, path),
+            None => false,
+        };
+        if !is_listed || shapes.size_of(ShapeId(id)) != size {
+            return Some(id);
+        }
     }
-    assert_eq!(rt; shapes.len(), 16);
-    assert_eq!(rt; shapes.sealed(), 16);
-    assert!(rt; shapes.is_prelude());
+    None
+}
+
+// That of the shapes that every registry begins with, how many there are and are sealed, and whether these are all.
+fn beginning(alloc: Global) -> Result<(Option<u32>, [usize; 2], bool), AllocError> {
+    let shapes: Shapes<Scalar> = Shapes::prelude(alloc)?;
+    let counts = [shapes.len(), shapes.sealed()];
+    Ok((first_unlisted(&shapes), counts, shapes.is_prelude()))
+}
+
+#[test]
+fn the_sixteen_scalars_have_their_names_layouts_and_modules(rt: HostRuntime) -> Result<(), Fail> {
+    assert_eq!(rt; beginning(rt.alloc())?, (None, [16, 16], true));
     Ok(())
+}
+
+fn pointer(known: KnownPointer, pointee: u32) -> Def {
+    Def::Pointer(PointerDef {
+        vtable: PointerVTable::new(),
+        pointee: Some(ShapeId(pointee)),
+        weak: None,
+        strong: None,
+        flags: PointerFlags::empty(),
+        known: Some(known),
+    })
+}
+
+// A draft with the definition or the type at an index.
+fn draft(alloc: Global, identifier: Text, index: usize) -> ShapeBuilder {
+    let builder = ShapeBuilder::for_sized(alloc, identifier, Layout { size: 8, align: 8 });
+    match index {
+        0 => builder.def(Def::Slice(SliceDef::new(SliceVTable::new(true, true, true), ShapeId(4)))),
+        1 => builder.def(pointer(KnownPointer::Box, 16)),
+        2 => builder.def(pointer(KnownPointer::Box, 4)),
+        3 => builder.def(pointer(KnownPointer::Rc, 4)),
+        _ => builder.ty(Ty::struct_builder(StructKind::Struct, Many::new(alloc)).build()),
+    }
+}
+
+// The id under which a shape is added, where it is one and there is memory.
+fn push(shapes: &mut Shapes<Scalar>, builder: ShapeBuilder) -> Option<u32> {
+    if shapes.len() >= 100 {
+        return None;
+    }
+    let Ok(shape) = builder.build() else {
+        return None;
+    };
+    match shapes.push(shape) {
+        Ok(id) => Some(id.0),
+        Err(_) => None,
+    }
+}
+
+// The same of the draft at an index.
+fn push_draft(shapes: &mut Shapes<Scalar>, alloc: Global, index: usize) -> Option<u32> {
+    match Text::new(alloc, "T") {
+        Ok(identifier) => push(shapes, draft(alloc, identifier, index)),
+        Err(_) => None,
+    }
+}
+
+// The kind of the shape of an id, where there is one.
+fn kind(shapes: &Shapes<Scalar>, id: u32) -> Option<ValueKind> {
+    if (id as usize) < shapes.len() {
+        Some(shapes.kind_of(ShapeId(id)))
+    } else {
+        None
+    }
+}
+
+// The kinds of the first scalar and of the five drafts.
+fn kinds(shapes: &Shapes<Scalar>) -> [Option<ValueKind>; 6] {
+    [
+        kind(shapes, 0),
+        kind(shapes, 16),
+        kind(shapes, 17),
+        kind(shapes, 18),
+        kind(shapes, 19),
+        kind(shapes, 20),
+    ]
+}
+
+// The same once they are added to the scalars.
+fn drafted_kinds(alloc: Global) -> Result<[Option<ValueKind>; 6], AllocError> {
+    let mut shapes: Shapes<Scalar> = Shapes::prelude(alloc)?;
+    for index in 0..5 {
+        push_draft(&mut shapes, alloc, index);
+    }
+    Ok(kinds(&shapes))
+}
+
+#[test]
+fn kinds_go_by_scalar_and_definition_and_type(rt: HostRuntime) -> Result<(), Fail> {
+    let expected = [
+        Some(ValueKind::Unit),
+        Some(ValueKind::NoValue),
+        Some(ValueKind::BoxedSlice),
+        Some(ValueKind::Box),
+        Some(ValueKind::NoValue),
+        Some(ValueKind::Struct),
+    ];
+    assert_eq!(rt; drafted_kinds(rt.alloc())?, expected);
+    Ok(())
+}
+
+// How many shapes there are, how many are sealed, and the id of the shape that stands under the id 17.
+fn counts_and_id(shapes: &Shapes<Scalar>) -> (usize, usize, Option<u32>) {
+    let id = match shapes.get(ShapeId(17)) {
+        Some(shape) => Some(shape.id.0),
+        None => None,
+    };
+    (shapes.len(), shapes.sealed(), id)
+}
+
+// The ids under which two drafts are added.
+fn add_two(shapes: &mut Shapes<Scalar>, alloc: Global) -> [Option<u32>; 2] {
+    [push_draft(shapes, alloc, 0), push_draft(shapes, alloc, 1)]
 }
 
 #[test]
 fn drafts_are_added_and_cut(rt: HostRuntime) -> Result<(), Fail> {
     let mut shapes: Shapes<Scalar> = Shapes::prelude(rt.alloc())?;
-    assert_eq!(rt; push(&mut shapes, builder(rt.alloc())?)?, Some(16));
-    assert_eq!(rt; push(&mut shapes, builder(rt.alloc())?)?, Some(17));
-    assert_eq!(rt; shapes.len(), 18);
-    assert_eq!(rt; shapes.sealed(), 16);
-    assert!(rt;
-        shapes
-            .get(ShapeId(17))
-            .is_some_and(|shape| shape.id == ShapeId(17))
-    );
+    let ids = add_two(&mut shapes, rt.alloc());
+    let drafted = counts_and_id(&shapes);
     shapes.cut();
-    assert_eq!(rt; shapes.len(), 16);
-    assert!(rt; shapes.get(ShapeId(16)).is_none());
+    let cut = counts_and_id(&shapes);
+    drop(shapes);
+    assert_eq!(rt; ids, [Some(16), Some(17)]);
+    assert_eq!(rt; drafted, (18, 16, Some(17)));
+    assert_eq!(rt; cut, (16, 16, None));
     Ok(())
 }
 
-#[test]
-fn kinds_go_by_scalar_and_definition_and_type(rt: HostRuntime) -> Result<(), Fail> {
-    let mut shapes: Shapes<Scalar> = Shapes::prelude(rt.alloc())?;
-    let slice = Def::Slice(SliceDef::new(SliceVTable::new(true, true, true), ShapeId(4)));
-    let record = Ty::struct_builder(StructKind::Struct, Many::new(rt.alloc())).build();
-    assert_eq!(rt;
-        push(&mut shapes, builder(rt.alloc())?.def(slice))?,
-        Some(16)
-    );
-    assert_eq!(rt;
-        push(
-            &mut shapes,
-            builder(rt.alloc())?.def(pointer(KnownPointer::Box, 16))
-        )?,
-        Some(17)
-    );
-    assert_eq!(rt;
-        push(
-            &mut shapes,
-            builder(rt.alloc())?.def(pointer(KnownPointer::Box, 4))
-        )?,
-        Some(18)
-    );
-    assert_eq!(rt;
-        push(
-            &mut shapes,
-            builder(rt.alloc())?.def(pointer(KnownPointer::Rc, 4))
-        )?,
-        Some(19)
-    );
-    assert_eq!(rt;
-        push(&mut shapes, builder(rt.alloc())?.ty(record))?,
-        Some(20)
-    );
-    assert_eq!(rt; kind(&shapes, 0), Some(ValueKind::Unit));
-    assert_eq!(rt; kind(&shapes, 16), Some(ValueKind::NoValue));
-    assert_eq!(rt; kind(&shapes, 17), Some(ValueKind::BoxedSlice));
-    assert_eq!(rt; kind(&shapes, 18), Some(ValueKind::Box));
-    assert_eq!(rt; kind(&shapes, 19), Some(ValueKind::NoValue));
-    assert_eq!(rt; kind(&shapes, 20), Some(ValueKind::Struct));
-    Ok(())
-}
-
-#[test]
-fn what_values_can_is_asked_of_lists_of_shapes(rt: HostRuntime) -> Result<(), Fail> {
-    let shapes: Shapes<Scalar> = Shapes::prelude(rt.alloc())?;
-    let ids = [ShapeId(0), ShapeId(6)];
-    let ids = ids.as_slice();
+// What is offered and asked of the shapes of the unit, of `u32` and of the two, and under an id without a shape.
+fn offers(shapes: &Shapes<Scalar>) -> [bool; 9] {
     let display = Characteristic::Display;
-    assert_eq!(rt; shapes.offers(ShapeId(0), display), false);
-    assert_eq!(rt; shapes.offers(ShapeId(6), display), true);
-    assert_eq!(rt; shapes.offers(ShapeId(16), display), false);
-    assert_eq!(rt; all(&shapes, Characteristic::Debug, ids), true);
-    assert_eq!(rt; all(&shapes, display, ids), false);
-    assert_eq!(rt; any(&shapes, display, ids), true);
-    assert_eq!(rt; any(&shapes, display, [ShapeId(0)].as_slice()), false);
-    assert_eq!(rt; none(&shapes, display, ids), false);
-    assert_eq!(rt; none(&shapes, display, [ShapeId(0)].as_slice()), true);
-    Ok(())
+    let both = [ShapeId(0), ShapeId(6)];
+    let both = both.as_slice();
+    let unit = [ShapeId(0)];
+    let unit = unit.as_slice();
+    [
+        shapes.offers(ShapeId(0), display),
+        shapes.offers(ShapeId(6), display),
+        shapes.offers(ShapeId(16), display),
+        all(shapes, Characteristic::Debug, both),
+        all(shapes, display, both),
+        any(shapes, display, both),
+        any(shapes, display, unit),
+        none(shapes, display, both),
+        none(shapes, display, unit),
+    ]
 }
 
 // The five questions over lists, in the order of their names.
@@ -181,66 +223,58 @@ fn questions(shapes: &Shapes<Scalar>, ids: &[ShapeId]) -> [bool; 5] {
     ]
 }
 
-// No answer but the one at this index.
-fn only(index: usize) -> [bool; 5] {
-    let mut answers = [false; 5];
-    if index < 5 {
-        answers[index] = true;
+// What is offered by the scalars, and the five questions of none of them and of `String` and `u32`.
+fn scalar_answers(alloc: Global) -> Result<([bool; 9], [bool; 5], [bool; 5]), AllocError> {
+    let shapes: Shapes<Scalar> = Shapes::prelude(alloc)?;
+    let of_none = questions(&shapes, [].as_slice());
+    let of_two = questions(&shapes, [ShapeId(3), ShapeId(6)].as_slice());
+    Ok((offers(&shapes), of_none, of_two))
+}
+
+#[test]
+fn what_values_can_is_asked_of_lists_of_shapes(rt: HostRuntime) -> Result<(), Fail> {
+    let offered = [false, true, false, true, false, true, false, false, true];
+    let expected = (offered, [true; 5], [true; 5]);
+    assert_eq!(rt; scalar_answers(rt.alloc())?, expected);
+    Ok(())
+}
+
+// A draft that says that its values can do what the question at an index asks, and nothing else.
+fn able_draft(alloc: Global, identifier: Text, index: usize) -> ShapeBuilder {
+    let vtable = VTableDirect {
+        hash: index == 1,
+        cmp: index == 2,
+        partial_eq: index == 3,
+        partial_cmp: index == 4,
+        ..VTableDirect::empty()
+    };
+    let operations = TypeOpsDirect {
+        drop_in_place: false,
+        default_in_place: index == 0,
+        clone_into: false,
+        is_truthy: false,
+    };
+    ShapeBuilder::for_unsized(alloc, identifier)
+        .vtable_direct(vtable)
+        .type_ops_direct(operations)
+}
+
+// The five questions of `u32` and that draft.
+fn draft_answers(alloc: Global, index: usize) -> Result<Option<[bool; 5]>, AllocError> {
+    let identifier = Text::new(alloc, "T")?;
+    let mut shapes: Shapes<Scalar> = Shapes::prelude(alloc)?;
+    match push(&mut shapes, able_draft(alloc, identifier, index)) {
+        Some(id) => Ok(Some(questions(&shapes, [ShapeId(6), ShapeId(id)].as_slice()))),
+        None => Ok(None),
     }
-    answers
 }
 
 #[test]
 fn each_question_over_a_list_reads_its_own_member(rt: HostRuntime) -> Result<(), Fail> {
-    let mut shapes: Shapes<Scalar> = Shapes::prelude(rt.alloc())?;
-    assert_eq!(rt;
-        questions(&shapes, [ShapeId(3), ShapeId(6)].as_slice()),
-        [true; 5]
-    );
-    assert_eq!(rt; questions(&shapes, [].as_slice()), [true; 5]);
-    let empty = VTableDirect::empty();
-    for (index, id, vtable) in [
-        (0, 16, empty),
-        (
-            1,
-            17,
-            VTableDirect {
-                hash: true,
-                ..empty
-            },
-        ),
-        (2, 18, VTableDirect { cmp: true, ..empty }),
-        (
-            3,
-            19,
-            VTableDirect {
-                partial_eq: true,
-                ..empty
-            },
-        ),
-        (
-            4,
-            20,
-            VTableDirect {
-                partial_cmp: true,
-                ..empty
-            },
-        ),
-    ] {
-        let operations = TypeOpsDirect {
-            drop_in_place: false,
-            default_in_place: index == 0,
-            clone_into: false,
-            is_truthy: false,
-        };
-        let draft = builder(rt.alloc())?
-            .vtable_direct(vtable)
-            .type_ops_direct(operations);
-        assert_eq!(rt; push(&mut shapes, draft)?, Some(id));
-        assert_eq!(rt;
-            questions(&shapes, [ShapeId(6), ShapeId(id)].as_slice()),
-            only(index)
-        );
+    for index in 0..5 {
+        let mut expected = [false; 5];
+        expected[index] = true;
+        assert_eq!(rt; draft_answers(rt.alloc(), index)?, Some(expected));
     }
     Ok(())
 }

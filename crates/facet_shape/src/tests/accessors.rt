@@ -1,8 +1,6 @@
+use crate::tests::begin;
 use crate::{Shape, ShapeBuilder, try_from_shape};
-use facet_base::{
-    Characteristic, HookId, KnownPointer, Layout, Many, PointerFlags, ScalarType, ShapeFlags,
-    ShapeId, Text,
-};
+use facet_base::{HookId, KnownPointer, Many, PointerFlags, ScalarType, ShapeFlags, ShapeId, Text};
 use facet_caps::{PointerVTable, SliceBuilderVTable, TypeOpsDirect, VTableDirect};
 use facet_def::{Def, PointerDef};
 use facet_desc::{
@@ -12,16 +10,18 @@ use facet_desc::{
 use std::alloc::{AllocError, Global};
 use std::test::Fail;
 
-fn begin(alloc: Global) -> Result<ShapeBuilder, AllocError> {
-    let layout = Layout { size: 8, align: 8 };
-    Ok(Shape::builder_for_sized(alloc, Text::new(alloc, "Point")?, layout))
-}
+const OPERATIONS: TypeOpsDirect = TypeOpsDirect {
+    drop_in_place: false,
+    default_in_place: false,
+    clone_into: false,
+    is_truthy: false,
+};
 
-// Builtin attributes of a key, with these numbers.
-fn attributes(alloc: Global, key: &str, values: [i128; 2]) -> Result<Many<Attr>, AllocError> {
+// Two builtin attributes of a key, with the numbers 1 and 2.
+fn attributes(alloc: Global, key: &str) -> Result<Many<Attr>, AllocError> {
     let mut attributes = Many::new(alloc);
-    for value in values {
-        attributes.push(Attr::new(None, Text::new(alloc, key)?, AttrData::Int(value)))?;
+    for number in [1, 2] {
+        attributes.push(Attr::new(None, Text::new(alloc, key)?, AttrData::Int(number)))?;
     }
     Ok(attributes)
 }
@@ -34,6 +34,7 @@ fn proxy(shape: u32) -> ProxyDef {
     }
 }
 
+// Two proxies for one format, by the shapes 21 and 22.
 fn format_proxies(alloc: Global) -> Result<Many<FormatProxy>, AllocError> {
     let mut proxies = Many::new(alloc);
     for shape in [21, 22] {
@@ -43,6 +44,12 @@ fn format_proxies(alloc: Global) -> Result<Many<FormatProxy>, AllocError> {
         })?;
     }
     Ok(proxies)
+}
+
+// An enum whose values are borrowed or owned.
+fn cow(alloc: Global) -> Ty {
+    let builder = EnumTypeBuilder::new(EnumRepr::U8, Many::new(alloc)).cow();
+    Ty::User(UserType::Enum(builder.build()))
 }
 
 // A pointer that a slice builder makes.
@@ -61,21 +68,11 @@ fn slice_pointer() -> Def {
     })
 }
 
-fn operations() -> TypeOpsDirect {
-    TypeOpsDirect {
-        drop_in_place: false,
-        default_in_place: false,
-        clone_into: false,
-        is_truthy: false,
-    }
-}
-
 // What the shape answers, in this order: the attributes deny_unknown_fields and default, transparent, untagged,
 // numeric, a container of metadata, any values, borrowed or owned, a proxy, an adapter, a truth value, made by a
 // slice builder.
-fn answers(builder: ShapeBuilder) -> Option<[bool; 12]> {
-    let shape = builder.build().ok()?;
-    Some([
+fn answers(shape: &Shape) -> [bool; 12] {
+    [
         shape.has_deny_unknown_fields_attr(),
         shape.has_default_attr(),
         shape.is_transparent(),
@@ -88,7 +85,53 @@ fn answers(builder: ShapeBuilder) -> Option<[bool; 12]> {
         shape.has_opaque_adapter(),
         shape.truthiness_fn(),
         shape.requires_eager_materialization(),
-    ])
+    ]
+}
+
+fn built_answers(builder: ShapeBuilder) -> Option<[bool; 12]> {
+    match builder.build() {
+        Ok(shape) => Some(answers(&shape)),
+        Err(_) => None,
+    }
+}
+
+// What a shape with attributes of this key answers.
+fn with_attributes(alloc: Global, key: &str) -> Result<Option<[bool; 12]>, AllocError> {
+    let identifier = Text::new(alloc, "Point")?;
+    let attributes = attributes(alloc, key)?;
+    Ok(built_answers(begin(alloc, identifier).attributes(attributes)))
+}
+
+// What a shape with this flag answers.
+fn with_flag(alloc: Global, flag: ShapeFlags) -> Result<Option<[bool; 12]>, AllocError> {
+    let identifier = Text::new(alloc, "Point")?;
+    Ok(built_answers(begin(alloc, identifier).flags(flag)))
+}
+
+// The member that the question at an index from 6 to 11 reads, beside attributes and flags. Other indexes set none.
+fn with_one_member(alloc: Global, builder: ShapeBuilder, index: usize) -> ShapeBuilder {
+    match index {
+        6 => builder.ty(Ty::Primitive(PrimitiveType::Boolean)),
+        7 => builder.ty(cow(alloc)),
+        8 => builder.proxy(proxy(20)),
+        9 => builder.opaque_adapter(OpaqueAdapterDef {
+            serialize: HookId(3),
+            deserialize: HookId(4),
+        }),
+        10 => builder.type_ops_direct(TypeOpsDirect {
+            is_truthy: true,
+            ..OPERATIONS
+        }),
+        11 => builder.def(slice_pointer()),
+        _ => builder,
+    }
+}
+
+// What a shape with that member answers.
+fn with_member(alloc: Global, index: usize) -> Result<Option<[bool; 12]>, AllocError> {
+    let identifier = Text::new(alloc, "Point")?;
+    let builder = with_one_member(alloc, begin(alloc, identifier), index);
+    Ok(built_answers(builder))
 }
 
 // No answer but the one at this index.
@@ -102,15 +145,13 @@ fn only(index: usize) -> Option<[bool; 12]> {
 
 #[test]
 fn each_question_reads_its_own_member(rt: HostRuntime) -> Result<(), Fail> {
-    let alloc = rt.alloc();
-    assert_eq!(rt; answers(begin(alloc)?), Some([false; 12]));
     for (index, key) in [
         (0, "deny_unknown_fields"),
         (1, "default"),
         (2, "transparent"),
+        (12, "rename"),
     ] {
-        let attributes = attributes(alloc, key, [1, 2])?;
-        assert_eq!(rt; answers(begin(alloc)?.attributes(attributes)), only(index));
+        assert_eq!(rt; with_attributes(rt.alloc(), key)?, only(index));
     }
     for (index, flag) in [
         (3, ShapeFlags::UNTAGGED),
@@ -118,32 +159,17 @@ fn each_question_reads_its_own_member(rt: HostRuntime) -> Result<(), Fail> {
         (5, ShapeFlags::METADATA_CONTAINER),
         (6, ShapeFlags::POD),
     ] {
-        assert_eq!(rt; answers(begin(alloc)?.flags(flag)), only(index));
+        assert_eq!(rt; with_flag(rt.alloc(), flag)?, only(index));
     }
-    let primitive = Ty::Primitive(PrimitiveType::Boolean);
-    assert_eq!(rt; answers(begin(alloc)?.ty(primitive)), only(6));
-    let cow = EnumTypeBuilder::new(EnumRepr::U8, Many::new(alloc)).cow();
-    let cow = Ty::User(UserType::Enum(cow.build()));
-    assert_eq!(rt; answers(begin(alloc)?.ty(cow)), only(7));
-    assert_eq!(rt; answers(begin(alloc)?.proxy(proxy(20))), only(8));
-    let adapter = OpaqueAdapterDef {
-        serialize: HookId(3),
-        deserialize: HookId(4),
-    };
-    assert_eq!(rt; answers(begin(alloc)?.opaque_adapter(adapter)), only(9));
-    let truthy = TypeOpsDirect {
-        is_truthy: true,
-        ..operations()
-    };
-    assert_eq!(rt; answers(begin(alloc)?.type_ops_direct(truthy)), only(10));
-    assert_eq!(rt; answers(begin(alloc)?.def(slice_pointer())), only(11));
+    for index in 6..13 {
+        assert_eq!(rt; with_member(rt.alloc(), index)?, only(index));
+    }
     Ok(())
 }
 
 // What the values of the shape can do, in the order of `Characteristic`.
-fn capabilities(builder: ShapeBuilder) -> Option<[bool; 9]> {
-    let shape = builder.build().ok()?;
-    Some([
+fn capabilities(shape: &Shape) -> [bool; 9] {
+    [
         shape.is_clone(),
         shape.is_display(),
         shape.is_debug(),
@@ -153,113 +179,151 @@ fn capabilities(builder: ShapeBuilder) -> Option<[bool; 9]> {
         shape.is_hash(),
         shape.is_default(),
         shape.is_from_str(),
-    ])
+    ]
 }
 
-// No capability but the one at this index.
-fn able_at(index: usize) -> [bool; 9] {
-    let mut capabilities = [false; 9];
-    if index < 9 {
-        capabilities[index] = true;
+fn built_capabilities(builder: ShapeBuilder) -> Option<[bool; 9]> {
+    match builder.build() {
+        Ok(shape) => Some(capabilities(&shape)),
+        Err(_) => None,
     }
-    capabilities
 }
 
-// The records of a type whose values can do that alone.
-fn able(c: Characteristic) -> (VTableDirect, TypeOpsDirect) {
-    let mut vtable = VTableDirect::empty();
-    let mut type_ops = operations();
-    match c {
-        Characteristic::Clone => type_ops.clone_into = true,
-        Characteristic::Display => vtable.display = true,
-        Characteristic::Debug => vtable.debug = true,
-        Characteristic::PartialEq => vtable.partial_eq = true,
-        Characteristic::PartialOrd => vtable.partial_cmp = true,
-        Characteristic::Ord => vtable.cmp = true,
-        Characteristic::Hash => vtable.hash = true,
-        Characteristic::Default => type_ops.default_in_place = true,
-        Characteristic::FromStr => vtable.parse = true,
-    }
-    (vtable, type_ops)
+// What values can do of which the characteristic at an index alone is noted.
+fn able(alloc: Global, index: usize) -> Result<Option<[bool; 9]>, AllocError> {
+    let identifier = Text::new(alloc, "Point")?;
+    let vtable = VTableDirect {
+        display: index == 1,
+        debug: index == 2,
+        partial_eq: index == 3,
+        partial_cmp: index == 4,
+        cmp: index == 5,
+        hash: index == 6,
+        parse: index == 8,
+        ..VTableDirect::empty()
+    };
+    let operations = TypeOpsDirect {
+        clone_into: index == 0,
+        default_in_place: index == 7,
+        ..OPERATIONS
+    };
+    let builder = begin(alloc, identifier).vtable_direct(vtable);
+    Ok(built_capabilities(builder.type_ops_direct(operations)))
 }
 
 #[test]
 fn each_capability_is_read_off_its_own_member(rt: HostRuntime) -> Result<(), Fail> {
-    for (index, c) in [
-        (0, Characteristic::Clone),
-        (1, Characteristic::Display),
-        (2, Characteristic::Debug),
-        (3, Characteristic::PartialEq),
-        (4, Characteristic::PartialOrd),
-        (5, Characteristic::Ord),
-        (6, Characteristic::Hash),
-        (7, Characteristic::Default),
-        (8, Characteristic::FromStr),
-    ] {
-        let (vtable, type_ops) = able(c);
-        let builder = begin(rt.alloc())?
-            .vtable_direct(vtable)
-            .type_ops_direct(type_ops);
-        assert_eq!(rt; capabilities(builder), Some(able_at(index)));
+    for index in 0..9 {
+        let mut expected = [false; 9];
+        expected[index] = true;
+        assert_eq!(rt; able(rt.alloc(), index)?, Some(expected));
     }
     Ok(())
 }
 
-// The lengths of the shape's name, tag and content, and its kind of scalar, which is asked in two ways.
-fn members(builder: ShapeBuilder) -> Option<([Option<usize>; 3], [Option<ScalarType>; 2])> {
-    let shape = builder.build().ok()?;
-    let lengths = [
-        Some(shape.effective_name().len()),
-        shape.get_tag_attr().map(str::len),
-        shape.get_content_attr().map(str::len),
-    ];
-    Some((lengths, [shape.scalar_type(), try_from_shape(&shape)]))
+// The length of a text, where there is one.
+fn length(text: Option<&str>) -> Option<usize> {
+    match text {
+        Some(text) => Some(text.len()),
+        None => None,
+    }
 }
 
-// The shapes of the proxies that are found for a format, listed or not, and for no format, and the number in the
-// first attribute `default`.
-fn lookups(builder: ShapeBuilder, format: &str) -> Option<([Option<ShapeId>; 3], i128)> {
-    let shape = builder.build().ok()?;
-    let proxies = [
-        shape.format_proxy(format).map(|proxy| proxy.shape),
-        shape.effective_proxy(Some(format)).map(|proxy| proxy.shape),
-        shape.effective_proxy(None).map(|proxy| proxy.shape),
-    ];
-    match shape.get_builtin_attr_value("default") {
-        Some(AttrData::Int(value)) => Some((proxies, *value)),
+// The lengths of the shape's name, tag and content.
+fn lengths(shape: &Shape) -> [Option<usize>; 3] {
+    [
+        Some(shape.effective_name().len()),
+        length(shape.get_tag_attr()),
+        length(shape.get_content_attr()),
+    ]
+}
+
+// Its lengths, and its kind of scalar, which is asked in two ways.
+fn members(builder: ShapeBuilder) -> Option<([Option<usize>; 3], [Option<ScalarType>; 2])> {
+    match builder.build() {
+        Ok(shape) => Some((
+            lengths(&shape),
+            [shape.scalar_type(), try_from_shape(&shape)],
+        )),
+        Err(_) => None,
+    }
+}
+
+// The shape of a proxy, where there is one.
+fn shape_of(proxy: Option<&ProxyDef>) -> Option<ShapeId> {
+    match proxy {
+        Some(proxy) => Some(proxy.shape),
+        None => None,
+    }
+}
+
+// The shapes of the proxies that are found for a format, listed or not, and for no format.
+fn proxies(shape: &Shape, format: &str) -> [Option<ShapeId>; 3] {
+    [
+        shape_of(shape.format_proxy(format)),
+        shape_of(shape.effective_proxy(Some(format))),
+        shape_of(shape.effective_proxy(None)),
+    ]
+}
+
+// The proxies that are found where one is general and two are for `json`.
+fn found_proxies(alloc: Global, format: &str) -> Result<Option<[Option<ShapeId>; 3]>, AllocError> {
+    let identifier = Text::new(alloc, "Point")?;
+    let listed = format_proxies(alloc)?;
+    let builder = begin(alloc, identifier).proxy(proxy(20));
+    match builder.format_proxies(listed).build() {
+        Ok(shape) => Ok(Some(proxies(&shape, format))),
+        Err(_) => Ok(None),
+    }
+}
+
+// The number in the first attribute of a key.
+fn number(shape: &Shape, key: &str) -> Option<i128> {
+    match shape.get_builtin_attr_value(key) {
+        Some(AttrData::Int(number)) => Some(*number),
         _ => None,
+    }
+}
+
+// The number that is found in attributes `default`.
+fn found_number(alloc: Global) -> Result<Option<i128>, AllocError> {
+    let identifier = Text::new(alloc, "Point")?;
+    let attributes = attributes(alloc, "default")?;
+    match begin(alloc, identifier).attributes(attributes).build() {
+        Ok(shape) => Ok(number(&shape, "default")),
+        Err(_) => Ok(None),
     }
 }
 
 #[test]
 fn members_and_the_first_of_a_list_are_found(rt: HostRuntime) -> Result<(), Fail> {
     let alloc = rt.alloc();
-    assert_eq!(rt;
-        members(begin(alloc)?),
-        Some(([Some(5), None, None], [None; 2]))
-    );
+    let identifier = Text::new(alloc, "Point")?;
+    let found = members(begin(alloc, identifier));
+    assert_eq!(rt; found, Some(([Some(5), None, None], [None; 2])));
+    let identifier = Text::new(alloc, "Point")?;
     let name = Text::new(alloc, "P")?;
     let tag = Text::new(alloc, "kind")?;
     let content = Text::new(alloc, "content")?;
-    let builder = begin(alloc)?
-        .rename(name)
-        .tag(tag)
-        .content(content)
-        .scalar(ScalarType::U32);
-    let scalar = Some(ScalarType::U32);
-    assert_eq!(rt;
-        members(builder),
-        Some(([Some(1), Some(4), Some(7)], [scalar; 2]))
+    let found = members(
+        begin(alloc, identifier)
+            .rename(name)
+            .tag(tag)
+            .content(content)
+            .scalar(ScalarType::U32),
     );
-    for (format, listed, found) in [("json", Some(ShapeId(21)), 21), ("xml", None, 20)] {
-        let attributes = attributes(alloc, "default", [2, 3])?;
-        let proxies = format_proxies(alloc)?;
-        let builder = begin(alloc)?
-            .attributes(attributes)
-            .proxy(proxy(20))
-            .format_proxies(proxies);
-        let expected = [listed, Some(ShapeId(found)), Some(ShapeId(20))];
-        assert_eq!(rt; lookups(builder, format), Some((expected, 2)));
-    }
+    let kind = Some(ScalarType::U32);
+    assert_eq!(rt; found, Some(([Some(1), Some(4), Some(7)], [kind; 2])));
+    let general = Some(ShapeId(20));
+    let first = Some(ShapeId(21));
+    assert_eq!(rt;
+        found_proxies(alloc, "json")?,
+        Some([first, first, general])
+    );
+    assert_eq!(rt;
+        found_proxies(alloc, "xml")?,
+        Some([None, general, general])
+    );
+    assert_eq!(rt; found_number(alloc)?, Some(1));
     Ok(())
 }

@@ -1,15 +1,11 @@
-use crate::{Shape, ShapeBuilder};
-use facet_base::{DeclId, Layout, Many, ShapeId, Text};
+use crate::ShapeBuilder;
+use crate::tests::begin;
+use facet_base::{DeclId, Many, ShapeId, Text};
 use facet_caps::ArrayVTable;
 use facet_def::{ArrayDef, Def};
 use facet_desc::{ConstParam, ConstParamKind, TypeParam};
 use std::alloc::{AllocError, Global};
 use std::test::Fail;
-
-fn begin(alloc: Global) -> Result<ShapeBuilder, AllocError> {
-    let layout = Layout { size: 24, align: 8 };
-    Ok(Shape::builder_for_sized(alloc, Text::new(alloc, "Grid")?, layout))
-}
 
 fn type_param(alloc: Global) -> Result<Many<TypeParam>, AllocError> {
     let mut params = Many::new(alloc);
@@ -38,32 +34,47 @@ fn array(n: usize) -> Def {
     Def::Array(ArrayDef::new(vtable, ShapeId(6), n))
 }
 
-// The kind of the type and the number of the declaration that are built.
-fn kind_and_number(builder: ShapeBuilder) -> Option<(bool, u128)> {
-    let shape = builder.build().ok()?;
-    Some((shape.ty.kind_str() == "array", shape.decl_id.0))
+// Whether the type that is built is an array, and the number of its declaration.
+fn built(builder: ShapeBuilder) -> Option<(bool, u128)> {
+    match builder.build() {
+        Ok(shape) => Some((shape.ty.kind_str() == "array", shape.decl_id.0)),
+        Err(_) => None,
+    }
+}
+
+// What is built of a type with a type parameter and no module path.
+fn without_path(alloc: Global, number: u128) -> Result<Option<(bool, u128)>, AllocError> {
+    let identifier = Text::new(alloc, "Grid")?;
+    let params = type_param(alloc)?;
+    let builder = begin(alloc, identifier).type_params(params);
+    Ok(built(builder.decl_id(DeclId(number))))
+}
+
+// What is built of a type with a module path and no parameters.
+fn without_parameters(alloc: Global) -> Result<Option<(bool, u128)>, AllocError> {
+    let identifier = Text::new(alloc, "Grid")?;
+    let path = Text::new(alloc, "geometry")?;
+    Ok(built(begin(alloc, identifier).module_path(path)))
+}
+
+// What is built of an array with a const parameter and a module path.
+fn generic(alloc: Global) -> Result<Option<(bool, u128)>, AllocError> {
+    let identifier = Text::new(alloc, "Grid")?;
+    let params = const_param(alloc)?;
+    let path = Text::new(alloc, "geometry")?;
+    let builder = begin(alloc, identifier).const_params(params);
+    Ok(built(builder.module_path(path).def(array(3))))
 }
 
 // The hashes are those of `Grid` and of `@geometry#array#Grid`.
 #[test]
 fn a_declaration_is_numbered_as_given_or_by_its_hash(rt: HostRuntime) -> Result<(), Fail> {
     let alloc = rt.alloc();
-    let params = type_param(alloc)?;
-    let given = begin(alloc)?.type_params(params).decl_id(DeclId(7));
-    assert_eq!(rt; kind_and_number(given), Some((false, 7)));
-    let path = Text::new(alloc, "geometry")?;
-    let without_parameters = begin(alloc)?.module_path(path);
     let hash = 138851089735242672527269273822017239145;
-    assert_eq!(rt; kind_and_number(without_parameters), Some((false, hash)));
-    let params = const_param(alloc)?;
-    let path = Text::new(alloc, "geometry")?;
-    let generic = begin(alloc)?
-        .const_params(params)
-        .module_path(path)
-        .def(array(3));
-    let hash = 79999020198012046017194262597885632006;
-    assert_eq!(rt; kind_and_number(generic), Some((true, hash)));
-    let params = type_param(alloc)?;
-    assert_eq!(rt; kind_and_number(begin(alloc)?.type_params(params)), None);
+    let generic_hash = 79999020198012046017194262597885632006;
+    assert_eq!(rt; without_path(alloc, 7)?, Some((false, 7)));
+    assert_eq!(rt; without_path(alloc, 0)?, None);
+    assert_eq!(rt; without_parameters(alloc)?, Some((false, hash)));
+    assert_eq!(rt; generic(alloc)?, Some((true, generic_hash)));
     Ok(())
 }

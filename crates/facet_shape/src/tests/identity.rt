@@ -5,15 +5,14 @@ use std::cmp::Ordering;
 use std::hash::{DefaultHasher, Hash, Hasher};
 use std::test::Fail;
 
-fn begin(alloc: Global, identifier: &str) -> Result<ShapeBuilder, AllocError> {
-    let identifier = Text::new(alloc, identifier)?;
-    Ok(Shape::builder_for_unsized(alloc, identifier))
-}
-
 fn with_id(builder: ShapeBuilder, id: u32) -> Option<Shape> {
-    let mut shape = builder.build().ok()?;
-    shape.id = ShapeId(id);
-    Some(shape)
+    match builder.build() {
+        Ok(mut shape) => {
+            shape.id = ShapeId(id);
+            Some(shape)
+        }
+        Err(_) => None,
+    }
 }
 
 fn hash_of<T: Hash>(value: &T) -> u64 {
@@ -22,8 +21,12 @@ fn hash_of<T: Hash>(value: &T) -> u64 {
     state.finish()
 }
 
-fn order_of<T: Ord>(first: &T, second: &T) -> (bool, Ordering) {
-    (first < second, first.cmp(second))
+fn is_below<T: PartialOrd>(first: &T, second: &T) -> bool {
+    first < second
+}
+
+fn order_of<T: Ord>(first: &T, second: &T) -> Ordering {
+    first.cmp(second)
 }
 
 // Whether two shapes are one, are equal and hash alike, whether the first is below the second, and how they are
@@ -33,24 +36,32 @@ fn compared(first: &Shape, second: &Shape) -> (bool, bool, bool, (bool, Ordering
         first.is_shape(second) && first.assert_shape(second).is_ok(),
         first == second,
         hash_of(first) == hash_of(second),
-        order_of(first, second),
+        (is_below(first, second), order_of(first, second)),
     )
+}
+
+// How a shape of the id 3 compares to one of another identifier and of this id.
+fn compared_to(
+    alloc: Global,
+    id: u32,
+) -> Result<Option<(bool, bool, bool, (bool, Ordering))>, AllocError> {
+    let identifiers = (Text::new(alloc, "A")?, Text::new(alloc, "B")?);
+    let first = with_id(Shape::builder_for_unsized(alloc, identifiers.0), 3);
+    let second = with_id(Shape::builder_for_unsized(alloc, identifiers.1), id);
+    match (&first, &second) {
+        (Some(first), Some(second)) => Ok(Some(compared(first, second))),
+        _ => Ok(None),
+    }
 }
 
 #[test]
 fn shapes_are_told_apart_by_their_ids_alone(rt: HostRuntime) -> Result<(), Fail> {
-    let alloc = rt.alloc();
     for (id, alike, order) in [
         (3, true, (false, Ordering::Equal)),
         (5, false, (true, Ordering::Less)),
     ] {
-        let first = with_id(begin(alloc, "A")?, 3);
-        let second = with_id(begin(alloc, "B")?, id);
-        let found = match (&first, &second) {
-            (Some(first), Some(second)) => Some(compared(first, second)),
-            _ => None,
-        };
-        assert_eq!(rt; found, Some((alike, alike, alike, order)));
+        let expected = (alike, alike, alike, order);
+        assert_eq!(rt; compared_to(rt.alloc(), id)?, Some(expected));
     }
     Ok(())
 }

@@ -1,4 +1,4 @@
-use crate::{AllocateError, Shape, ShapeBuilder};
+use crate::{AllocateError, Shape};
 use facet_base::{Layout, ShapeLayout, Text};
 use facet_block::Block;
 use std::alloc::{AllocError, Global};
@@ -12,11 +12,8 @@ enum Refusal {
     NoMemory,
 }
 
-// The size of the block that the shape gives.
-fn size_given(alloc: Global, builder: ShapeBuilder) -> Result<usize, Refusal> {
-    let Ok(shape) = builder.build() else {
-        return Err(Refusal::Unbuilt);
-    };
+// The size of the block that a shape gives.
+fn size_given(alloc: Global, shape: &Shape) -> Result<usize, Refusal> {
     let given: Result<Block<u32>, AllocateError> = shape.allocate(alloc);
     match given {
         Ok(block) => Ok(block.size()),
@@ -25,40 +22,33 @@ fn size_given(alloc: Global, builder: ShapeBuilder) -> Result<usize, Refusal> {
     }
 }
 
-// Whether the shape takes an empty block back.
-fn is_taken(builder: ShapeBuilder, block: Block<u32>) -> Option<bool> {
-    let shape = builder.build().ok()?;
+// Whether a shape takes an empty block back.
+fn is_taken(shape: &Shape, block: Block<u32>) -> bool {
     let size = block.size();
-    if !block.is_empty_in(0, size) {
-        return None;
-    }
-    Some(shape.deallocate(block).is_ok())
+    block.is_empty_in(0, size) && shape.deallocate(block).is_ok()
 }
 
-fn begin(alloc: Global, layout: ShapeLayout) -> Result<ShapeBuilder, AllocError> {
+// The size of the block that a shape of this layout gives, and whether it takes a block back.
+fn given_and_taken(
+    alloc: Global,
+    layout: ShapeLayout,
+) -> Result<(Result<usize, Refusal>, bool), AllocError> {
     let identifier = Text::new(alloc, "T")?;
-    Ok(Shape::builder_for_unsized(alloc, identifier).layout(layout))
+    let block = Block::new(alloc, 24)?;
+    let builder = Shape::builder_for_unsized(alloc, identifier);
+    match builder.layout(layout).build() {
+        Ok(shape) => Ok((size_given(alloc, &shape), is_taken(&shape, block))),
+        Err(_) => Ok((Err(Refusal::Unbuilt), false)),
+    }
 }
 
 #[test]
 fn blocks_are_given_and_taken_for_sized_shapes_alone(rt: HostRuntime) -> Result<(), Fail> {
-    let alloc = rt.alloc();
-    for (layout, given, taken) in [
-        (
-            ShapeLayout::Sized(Layout { size: 0, align: 1 }),
-            Ok(0),
-            true,
-        ),
-        (
-            ShapeLayout::Sized(Layout { size: 24, align: 8 }),
-            Ok(24),
-            true,
-        ),
-        (ShapeLayout::Unsized, Err(Refusal::Unsized), false),
-    ] {
-        assert_eq!(rt; size_given(alloc, begin(alloc, layout)?), given);
-        let block = Block::new(alloc, 24)?;
-        assert_eq!(rt; is_taken(begin(alloc, layout)?, block), Some(taken));
+    for (size, align) in [(0, 1), (24, 8)] {
+        let layout = ShapeLayout::Sized(Layout { size, align });
+        assert_eq!(rt; given_and_taken(rt.alloc(), layout)?, (Ok(size), true));
     }
+    let refused = (Err(Refusal::Unsized), false);
+    assert_eq!(rt; given_and_taken(rt.alloc(), ShapeLayout::Unsized)?, refused);
     Ok(())
 }
