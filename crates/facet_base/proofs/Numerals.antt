@@ -1,5 +1,5 @@
 -- The number that `parse` reads is the one that the definition says.
-use Rattle.std.proofs.Common.{◌≡◌, ℕ, ℤ, pos, neg_ℤ, ◌+◌, ◌^◌, ◌<◌, ◌≤◌, ◌&&◌, Bool, true, false, cond, List, [], ◌∷◌, length, drop, None, Some, option_map, Result, Ok, Err, refl, sym, ap, ◌∙◌, subst, rules, arith, nat_lt, nat_eq}
+use Rattle.std.proofs.Common.{◌≡◌, ℕ, ℤ, pos, neg_ℤ, ◌+◌, ◌^◌, ◌<◌, ◌≤◌, ◌&&◌, Bool, true, false, cond, List, [], ◌∷◌, length, drop, Option, None, Some, option_map, if◌then◌else◌, ◌==◌, Result, Ok, Err, refl, sym, ap, ◌∙◌, subst, rules, arith, nat_lt, nat_eq}
 use Rattle.std.proofs.lemmas.Bool.Decides.{nat_tests}
 use Rattle.std.specs.Result.{OkIff, result_ok}
 use Rattle.std.specs.Str.{all_ascii_digits}
@@ -8,7 +8,20 @@ use Rattle.std.proofs.lemmas.Bool.{ltb-true}
 use mir.Syntax.{Width}
 use mir.Val.{hbits}
 use Rattle.std.proofs.lemmas.Str.Parse.{IsNumeralModel, numerals_by_fold, parse_signed_minus, parse_signed_plain, parse_signed_plus}
-use Rattle.facet_base.specs.Numeral.{number_after, number_below, without_plus, unsigned_below, signed_in}
+use Rattle.facet_base.specs.Numeral.{number_after, are_digits, without_plus}
+
+-- the number that digits write, where it is below the limit
+abbrev pub number_below : ℕ → List ℕ → Option ℕ
+number_below limit digits = if are_digits digits && nat_lt (number_after 0 digits) limit then Some (number_after 0 digits) else None
+
+-- the unsigned number below the limit that a text is: perhaps a plus, and one digit or more
+abbrev pub unsigned_below : ℕ → List ℕ → Option ℕ
+unsigned_below limit text = number_below limit (without_plus text)
+
+-- the signed number with so many bits beside the sign that a text is: perhaps a sign, and one digit or more
+abbrev pub signed_in : ℕ → List ℕ → Option ℤ
+signed_in bits [] = None
+signed_in bits (b ∷ text) = if b == 45 then option_map (λ n. neg_ℤ (pos n)) (number_below (2 ^ bits + 1) text) else option_map pos (unsigned_below (2 ^ bits) (b ∷ text))
 
 pub decimal_digits : IsNumeralModel (λ ds. all_ascii_digits ds ≡ true) (number_after 0)
 decimal_digits = numerals_by_fold _ (search rules) number_after (search rules)
