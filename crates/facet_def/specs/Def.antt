@@ -12,7 +12,7 @@ pub record IsRecordOrBack {R : Type 0} (case : R → Def) (definition : Def) (re
   pub taken : (its_record : R) → (result ≡ Ok its_record) ↔ (definition ≡ case its_record)
   pub back : IfErr result (λ other. other ≡ definition)
 
--- the type that a shape has where its definition alone is given: of an array or a slice the sequence of its elements, else opaque
+-- the type that follows from a definition alone: of an array or a slice the sequence of its elements, else opaque
 abbrev pub type_of : Def → Ty
 type_of (def.Array a) = ty.Sequence (sequence.Array (record { t = a.t; n = a.n }))
 type_of (def.Slice s) = ty.Sequence (sequence.Slice (record { t = s.t }))

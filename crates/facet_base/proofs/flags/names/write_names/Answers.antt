@@ -1,5 +1,5 @@
 use Rattle.std.proofs.Common.{refl, sym, true}
-use Rattle.facet_base.proofs.Names.{one_more_written, one_more_is_some, row_of_item, contained_row_adds_its_name, missing_row_adds_none}
+use Rattle.facet_base.proofs.FlagNames.{one_more_written, one_more_is_some, row_of_item, contained_row_adds_its_name, missing_row_adds_none}
 use Rattle.facet_base.proofs.flags.names.write_names.Goals as goal
 use Rattle.facet_base.proofs.flags.names.write_names.Goals.{then-contains+in_ok-write_name, else-contains}
 
