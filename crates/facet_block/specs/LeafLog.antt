@@ -9,7 +9,7 @@ pub record LeafLog (L : Type 0) : Type 0 where
   pub spare : ℕ
 
 -- the log whose leaves are the items of this list
-abbrev pub log_of : {L : Type 0} → Kept L → LeafLog L
+abbrev pub log_of : {L : Type 0} → ManyValue L → LeafLog L
 log_of many = record { leaves = many.items; spare = many.spare }
 
 -- it is stored as that list

@@ -18,10 +18,7 @@ impl Shape {
         let ShapeLayout::Sized(layout) = self.layout else {
             return Err(AllocateError::Unsized);
         };
-        match alloc_for_layout(alloc, layout) {
-            Ok(block) => Ok(block),
-            Err(_) => Err(AllocateError::NoMemory),
-        }
+        alloc_for_layout(alloc, layout).map_err(|_| AllocateError::NoMemory)
     }
 
     /// Frees a block with no item. Err comes exactly for an unsized shape, and the block is freed then too.

@@ -38,7 +38,11 @@ fn questions_in_field(alloc: Global, ns: Option<&str>, key: &str) -> Result<[boo
 }
 
 // The same of a variant that has one attribute.
-fn questions_in_variant(alloc: Global, ns: Option<&str>, key: &str) -> Result<[bool; 3], AllocError> {
+fn questions_in_variant(
+    alloc: Global,
+    ns: Option<&str>,
+    key: &str,
+) -> Result<[bool; 3], AllocError> {
     let attributes = one_attribute(alloc, ns, key)?;
     match variant_with(alloc, attributes) {
         Ok(variant) => Ok(variant_questions(&variant)),

@@ -49,6 +49,9 @@ fn blocks_are_allocated_and_freed_for_sized_shapes_alone(rt: HostRuntime) -> Res
         assert_eq!(rt; allocated_and_freed(rt.alloc(), layout)?, (Ok(size), true));
     }
     let refused = (Err(Refusal::Unsized), false);
-    assert_eq!(rt; allocated_and_freed(rt.alloc(), ShapeLayout::Unsized)?, refused);
+    assert_eq!(rt;
+        allocated_and_freed(rt.alloc(), ShapeLayout::Unsized)?,
+        refused
+    );
     Ok(())
 }
