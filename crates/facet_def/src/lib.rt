@@ -1,4 +1,4 @@
-//! Definitions: what a shape holds, by which operations its values are reached, and of which shapes its parts are.
+//! Definitions: what a shape holds, by which operations its values are accessed, and of which shapes its parts are.
 #![tactic(auto)]
 
 mod array_def;

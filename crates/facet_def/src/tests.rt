@@ -121,7 +121,7 @@ fn case_of(def: &Def) -> usize {
     }
 }
 
-// What the call for the case at an index hands back.
+// The definition that the call for the case at an index returns as it was.
 fn handed_back(case: usize, def: Def) -> Option<Def> {
     match case {
         1 => def.into_scalar().err(),
@@ -221,7 +221,7 @@ fn a_pointer_is_made_of_its_pointee_by_its_operation_or_its_name(rt: HostRuntime
     }
 }
 
-// What a list answers of its operations, of which the one at an index alone is offered.
+// What a list offers that has the operation at an index alone.
 fn offered(index: usize) -> [bool; 9] {
     let type_ops = ListTypeOps {
         iter_vtable: ITERATOR,
@@ -234,11 +234,11 @@ fn offered(index: usize) -> [bool; 9] {
         capacity: index == 6,
         from_raw_parts: index == 7,
     };
-    answers(&ListDef::with_type_ops(LIST, type_ops, ShapeId(3)))
+    operations(&ListDef::with_type_ops(LIST, type_ops, ShapeId(3)))
 }
 
 // Its eight operations in order, and then whether its iterator goes backwards.
-fn answers(list: &ListDef) -> [bool; 9] {
+fn operations(list: &ListDef) -> [bool; 9] {
     [
         list.init_in_place_with_capacity(),
         list.push(),
@@ -261,5 +261,5 @@ fn a_list_offers_the_operations_that_it_was_given(rt: HostRuntime) {
         expected[8] = true;
         assert_eq!(rt; offered(index), expected);
     }
-    assert_eq!(rt; answers(&ListDef::new(LIST, ShapeId(3))), [false; 9]);
+    assert_eq!(rt; operations(&ListDef::new(LIST, ShapeId(3))), [false; 9]);
 }

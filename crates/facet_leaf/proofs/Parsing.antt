@@ -11,10 +11,10 @@ use Rattle.std.specs.Int.{w128}
 use Rattle.std.proofs.lemmas.Int.{to_z-of_z}
 use mir.Val.{of_z, to_z, SFits}
 use Rattle.std.proofs.lemmas.Bool.Decides.{nat_tests}
-use Rattle.facet_base.specs.Numeral.{are_digits, number_after, signed_in, unsigned_below, without_plus}
+use Rattle.facet_base.specs.Numeral.{are_digits, number_after, without_plus}
 use Rattle.facet_base.specs.declared.scalar_type.ScalarType.{ScalarType}
 use Rattle.facet_base.specs.declared.scalar_type.ScalarType.TheVariants as kind
-use Rattle.facet_base.proofs.Numerals.{signed_parsed, unsigned_parsed}
+use Rattle.facet_base.proofs.Numerals.{signed_in, signed_parsed, unsigned_below, unsigned_parsed}
 use Rattle.facet_leaf.specs.declared.scalar.Scalar.{Scalar}
 use Rattle.facet_leaf.specs.declared.scalar.Scalar.TheVariants as scalar
 use Rattle.facet_leaf.specs.Scalar.{has_negative, signed_of, whole_of}

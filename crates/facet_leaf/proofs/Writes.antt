@@ -6,7 +6,7 @@ use Rattle.std.proofs.Math.Seq.{drop-length}
 use Rattle.std.proofs.lemmas.List.Concat.{flat_map-append}
 use Rattle.std.specs.List.{flat_map}
 use Rattle.std.specs.Result.{OnOk, OnErr}
-use Rattle.facet_base.specs.Output.{HoldsText, IsPrefix}
+use Rattle.facet_base.specs.Write.{HoldsText, IsPrefix}
 
 -- what was written is the beginning of the text
 abbrev pub IsBegun : List ℕ → List ℕ → List ℕ → Type 0

@@ -1,6 +1,6 @@
 ghost use Rattle.std.specs.Prelude.{◌≡◌, IsTrue, IfOk, MatchResult, Some, ok_or};
 ghost use Rattle.std.specs.Str.{IsUtf8};
-ghost use Rattle.facet_base.specs.Output.{HoldsText};
+ghost use Rattle.facet_base.specs.Write.{HoldsText};
 ghost use Rattle.facet_leaf.specs.HashWrite.{fed_all};
 ghost use Rattle.facet_leaf.specs.LeafModel.{LeafModel};
 ghost use Rattle.facet_leaf.specs.LeafLaws.{LeafLaws};

@@ -3,7 +3,7 @@
 ghost use Rattle.std.specs.Prelude.{◌≡◌, ◌↔◌, ◌<◌, ◌∷◌, ◌++◌, [], codes, encode_utf8, false};
 ghost use Rattle.std.specs.Fmt.{digits, digit_glyph};
 ghost use Rattle.std.specs.Str.{IsUtf8};
-ghost use Rattle.facet_base.specs.Output.{HoldsText};
+ghost use Rattle.facet_base.specs.Write.{HoldsText};
 ghost use Rattle.facet_leaf.specs.ScalarTexts.{escaped, quoted, truth_text, scalar_debug, scalar_display};
 
 use crate::scalar::Scalar;

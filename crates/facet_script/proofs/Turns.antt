@@ -7,7 +7,7 @@ use Rattle.facet_leaf.specs.LeafModel.{LeafModel}
 use Rattle.facet_session.specs.Interpreter.{State, Turn, first_state}
 use Rattle.facet_session.specs.Script.{turns, state_after, answer_line, after, answers}
 use Rattle.facet_base.proofs.Lists.{next_at}
-use Rattle.facet_base.specs.Output.{IsPrefix}
+use Rattle.facet_base.specs.Write.{IsPrefix}
 use Rattle.facet_script.specs.Run.{last_dropped}
 
 state_after_more : {L : Type 0} (state : State L) (steps : List (Turn L)) (turn : Turn L) → state_after state (steps ++ turn ∷ []) ≡ turn.state

@@ -11,7 +11,7 @@ use Rattle.facet_caps.specs.declared.vtable_erased.VTableErased.TheVariants as e
 use Rattle.facet_def.specs.declared.def.Def.TheVariants as def
 use Rattle.facet_desc.specs.WithoutSpare.{ty_without_spare}
 use Rattle.facet_leaf.specs.LeafModel.{LeafModel}
-use Rattle.facet_shape.specs.Built.{type_or_default, declared_id, with_declared_id, built, fresh_shape}
+use Rattle.facet_shape.specs.ShapeBuilder.{type_or_default, declared_id, with_declared_id, built, fresh_shape}
 use Rattle.facet_shape.specs.WithoutSpare.{shape_without_spare}
 use Rattle.facet_shape.specs.declared.shape.Shape.{Shape}
 use Rattle.facet_shapes.specs.Prelude.{scalar_layout, scalar_ty, scalar_markers, scalar_module, scalar_vtable, scalar_ops, scalar_shape}

@@ -8,7 +8,7 @@ use Rattle.facet_base.specs.declared.layout.ShapeLayout.{ShapeLayout}
 use Rattle.facet_base.specs.declared.layout.ShapeLayout.TheVariants as layout
 use Rattle.facet_base.specs.declared.scalar_type.ScalarType.{ScalarType}
 use Rattle.facet_base.specs.declared.scalar_type.ScalarType.TheVariants as scalar
-use Rattle.facet_caps.specs.Empty.{empty_direct}
+use Rattle.facet_caps.specs.EmptyRecords.{empty_direct}
 use Rattle.facet_caps.specs.declared.type_ops.TypeOps.TheVariants as ops
 use Rattle.facet_caps.specs.declared.type_ops.TypeOpsDirect.{TypeOpsDirect}
 use Rattle.facet_caps.specs.declared.vtable.VTableDirect.{VTableDirect}
@@ -22,7 +22,7 @@ use Rattle.facet_desc.specs.declared.ty.Ty.TheVariants as ty
 use Rattle.facet_desc.specs.declared.ty.UserType.TheVariants as user
 use Rattle.facet_leaf.specs.LeafModel.{LeafModel}
 use Rattle.facet_leaf.specs.declared.hook.LeafHook.TheVariants as hook
-use Rattle.facet_shape.specs.Built.{fresh_shape}
+use Rattle.facet_shape.specs.ShapeBuilder.{fresh_shape}
 use Rattle.facet_shape.specs.declared.shape.Shape.{Shape}
 use Rattle.facet_shapes.specs.Registry.{Registry}
 

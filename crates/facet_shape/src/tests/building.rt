@@ -34,7 +34,7 @@ fn array(n: usize) -> Def {
     Def::Array(ArrayDef::new(vtable, ShapeId(6), n))
 }
 
-// Whether the type that is built is an array, and the number of its declaration.
+// Whether the type that is built is an array, and its declaration id.
 fn built(builder: ShapeBuilder) -> Option<(bool, u128)> {
     match builder.build() {
         Ok(shape) => Some((shape.ty.kind_str() == "array", shape.decl_id.0)),
@@ -43,11 +43,11 @@ fn built(builder: ShapeBuilder) -> Option<(bool, u128)> {
 }
 
 // What is built of a type with a type parameter and no module path.
-fn without_path(alloc: Global, number: u128) -> Result<Option<(bool, u128)>, AllocError> {
+fn without_path(alloc: Global, decl_id: u128) -> Result<Option<(bool, u128)>, AllocError> {
     let identifier = Text::new(alloc, "Grid")?;
     let params = type_param(alloc)?;
     let builder = begin(alloc, identifier).type_params(params);
-    Ok(built(builder.decl_id(DeclId(number))))
+    Ok(built(builder.decl_id(DeclId(decl_id))))
 }
 
 // What is built of a type with a module path and no parameters.
@@ -68,7 +68,7 @@ fn generic(alloc: Global) -> Result<Option<(bool, u128)>, AllocError> {
 
 // The hashes are those of `Grid` and of `@geometry#array#Grid`.
 #[test]
-fn a_declaration_is_numbered_as_given_or_by_its_hash(rt: HostRuntime) -> Result<(), Fail> {
+fn a_declaration_id_is_the_given_one_or_a_hash(rt: HostRuntime) -> Result<(), Fail> {
     let alloc = rt.alloc();
     let hash = 138851089735242672527269273822017239145;
     let generic_hash = 79999020198012046017194262597885632006;

@@ -2,7 +2,7 @@ use Rattle.std.proofs.Common.{◌≡◌, ◌∙◌, ap, refl, sym}
 use Rattle.std.specs.Result.{result_ok}
 use Rattle.facet_base.specs.ScalarType.{identifier_of}
 use Rattle.facet_base.specs.declared.layout.ShapeLayout.TheVariants as layout
-use Rattle.facet_shape.specs.Built.{fresh_shape}
+use Rattle.facet_shape.specs.ShapeBuilder.{fresh_shape}
 use Rattle.facet_shape.specs.WithoutSpare.{shape_without_spare}
 use Rattle.facet_shapes.specs.Prelude.{scalar_markers}
 use Rattle.facet_shapes.proofs.Scalars.{described, scalar_built, scalar_is_built}

@@ -1,7 +1,5 @@
--- What a type or a definition is.
-use Rattle.std.specs.Prelude.{Bool, true, false, is_some}
-use Rattle.facet_def.specs.declared.def.Def.{Def}
-use Rattle.facet_def.specs.declared.def.Def.TheVariants as def
+-- What a type is.
+use Rattle.std.specs.Prelude.{Bool, true, false}
 use Rattle.facet_desc.specs.declared.repr.BaseRepr.{BaseRepr}
 use Rattle.facet_desc.specs.declared.repr.BaseRepr.TheVariants as base
 use Rattle.facet_desc.specs.declared.ty.Ty.{Ty}
@@ -13,12 +11,12 @@ abbrev pub is_primitive : Ty → Bool
 is_primitive (ty.Primitive p) = true
 is_primitive _ = false
 
--- the rules are those of the one field with a size
+-- the representation is that of the only field with a size
 abbrev pub is_transparent_base : BaseRepr → Bool
 is_transparent_base base.Transparent = true
 is_transparent_base _ = false
 
--- it is a struct by those rules
+-- it is a struct of that representation
 abbrev pub is_transparent_struct : Ty → Bool
 is_transparent_struct (ty.User (user.Struct s)) = is_transparent_base s.repr.base
 is_transparent_struct _ = false
@@ -27,8 +25,3 @@ is_transparent_struct _ = false
 abbrev pub is_cow_enum : Ty → Bool
 is_cow_enum (ty.User (user.Enum e)) = e.is_cow
 is_cow_enum _ = false
-
--- it is a pointer that a slice builder makes
-abbrev pub is_slice_builder : Def → Bool
-is_slice_builder (def.Pointer p) = is_some p.vtable.slice_builder_vtable
-is_slice_builder _ = false

@@ -1,4 +1,4 @@
--- What an output holds once a text was written to it.
+-- What an output of `Write` holds once a text was written to it.
 use Rattle.std.specs.Prelude.{◌≡◌, ℕ, List, ◌++◌, Result, MatchResult}
 
 -- a list begins so

@@ -1,11 +1,8 @@
--- What the two kinds of capability records have in common.
+-- What can be done with the values of a type, concrete or generic.
 use Rattle.std.specs.Prelude.{ℕ, List, codes}
 use Rattle.facet_caps.specs.declared.vtable.VTableDirect.{VTableDirect}
 use Rattle.facet_caps.specs.declared.vtable_erased.VTableErased.{VTableErased}
 use Rattle.facet_caps.specs.declared.vtable_erased.VTableErased.TheVariants as erased
-use Rattle.facet_caps.specs.declared.type_ops.TypeOps.{TypeOps}
-use Rattle.facet_caps.specs.declared.type_ops.TypeOps.TheVariants as ops
-use Rattle.facet_caps.specs.declared.type_ops.TypeOpsDirect.{TypeOpsDirect}
 
 -- what can be done with the values
 abbrev pub capabilities_of : VTableErased → VTableDirect
@@ -24,17 +21,6 @@ capabilities_of (erased.Indirect v) =
       partial_eq = v.partial_eq;
       partial_cmp = v.partial_cmp;
       cmp = v.cmp;
-    }
-
--- the operations of the type
-abbrev pub operations_of : TypeOps → TypeOpsDirect
-operations_of (ops.Direct o) = o
-operations_of (ops.Indirect o) =
-    record {
-      drop_in_place = o.drop_in_place;
-      default_in_place = o.default_in_place;
-      clone_into = o.clone_into;
-      is_truthy = o.is_truthy;
     }
 
 -- the debug text names the variant alone

@@ -1,4 +1,4 @@
--- How much memory a value takes.
+-- How many bytes a value takes.
 use Rattle.std.specs.Prelude.{ℕ, Option, None, Some}
 use Rattle.facet_base.specs.declared.layout.ShapeLayout.{ShapeLayout}
 use Rattle.facet_base.specs.declared.layout.ShapeLayout.TheVariants.{Sized, Unsized}

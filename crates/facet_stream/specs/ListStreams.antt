@@ -26,7 +26,7 @@ pub record Store : Type 0 where
 abbrev pub IsListed : List ℕ → ℕ → Type 0
 IsListed fail calls = Contains fail (raised calls 1)
 
--- a sink that holds all that it has room for is handed a piece that isn't empty
+-- the sink holds all that it has room for, and the piece isn't empty
 abbrev pub IsPastRoom : Store → List ℕ → Type 0
 IsPastRoom sink piece = (sink.room ≤ length sink.bytes) × (0 < length piece)
 

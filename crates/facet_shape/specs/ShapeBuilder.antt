@@ -3,15 +3,15 @@ use Rattle.std.specs.Prelude.{◌==◌, ◌||◌, ℕ, Bool, List, [], Option, N
 use Rattle.std.specs.Int.RustNames.{bit_or}
 use Rattle.facet_base.specs.DeclId.{extern_text}
 use Rattle.facet_base.specs.Fnv.{fnv, fnv_start}
-use Rattle.facet_base.specs.Kept.{of_items}
+use Rattle.facet_base.specs.Many.{of_items}
 use Rattle.facet_base.specs.declared.layout.ShapeLayout.{ShapeLayout}
 use Rattle.facet_base.specs.declared.variance.Variance.TheVariants as variance
-use Rattle.facet_caps.specs.Empty.{empty_direct}
+use Rattle.facet_caps.specs.EmptyRecords.{empty_direct}
 use Rattle.facet_caps.specs.declared.vtable_erased.VTableErased.TheVariants as erased
-use Rattle.facet_def.specs.Types.{type_of}
+use Rattle.facet_def.specs.Def.{type_of}
 use Rattle.facet_def.specs.declared.def.Def.{Def}
 use Rattle.facet_def.specs.declared.def.Def.TheVariants as def
-use Rattle.facet_desc.specs.Texts.{kind_text}
+use Rattle.facet_desc.specs.Ty.{kind_text}
 use Rattle.facet_desc.specs.declared.ty.Ty.{Ty}
 use Rattle.facet_desc.specs.declared.ty.Ty.TheVariants as ty
 use Rattle.facet_shape.specs.declared.shape.Shape.{Shape}
@@ -80,14 +80,14 @@ hashed_id s =
     then option_map (λ path. fnv fnv_start (extern_text path (kind_text s.ty) s.type_identifier)) s.module_path
     else Some (fnv fnv_start s.type_identifier)
 
--- the number of the declaration: the given one where it isn't 0, else that hash
+-- the declaration id: the given one where it isn't 0, else that hash
 abbrev pub declared_id : Shape → Option ℕ
 declared_id s = if s.decl_id.0 == 0 then hashed_id s else Some s.decl_id.0
 
--- the shape with the number of its declaration, where there is one
+-- the shape with its declaration id, where there is one
 abbrev pub with_declared_id : Shape → Option Shape
 with_declared_id s = option_map (λ n. record s { decl_id = record { 0 = n } }) (declared_id s)
 
--- what is built: the shape with its type, and then with the number of its declaration
+-- what is built: the shape with its type, and then with its declaration id
 abbrev pub built : Shape → Option Shape
 built s = with_declared_id (with_resolved_type s)

@@ -1,18 +1,10 @@
--- The words for kinds of types and for how functions are called.
-use Rattle.std.specs.Prelude.{ℕ, List, Option, None, Some, codes}
-use Rattle.facet_desc.specs.declared.function.FunctionAbi.{FunctionAbi}
-use Rattle.facet_desc.specs.declared.function.FunctionAbi.TheVariants as abi
+-- The words for kinds of types.
+use Rattle.std.specs.Prelude.{ℕ, List, codes}
 use Rattle.facet_desc.specs.declared.pointer.PointerType.TheVariants as pointer
 use Rattle.facet_desc.specs.declared.sequence.SequenceType.TheVariants as sequence
 use Rattle.facet_desc.specs.declared.ty.Ty.{Ty}
 use Rattle.facet_desc.specs.declared.ty.Ty.TheVariants as ty
 use Rattle.facet_desc.specs.declared.ty.UserType.TheVariants as user
-
--- the word for how a function is called
-abbrev pub abi_text : FunctionAbi → Option (List ℕ)
-abi_text abi.C = Some (codes "C")
-abi_text abi.Rust = Some (codes "Rust")
-abi_text abi.Unknown = None
 
 -- the word for a type's kind
 abbrev pub kind_text : Ty → List ℕ

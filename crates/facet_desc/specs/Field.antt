@@ -1,6 +1,6 @@
 -- What a builder of fields begins with.
 use Rattle.std.specs.Prelude.{ℕ, List, [], None}
-use Rattle.facet_base.specs.Kept.{of_items}
+use Rattle.facet_base.specs.Many.{of_items}
 use Rattle.facet_base.specs.declared.layout.ShapeId.{ShapeId}
 use Rattle.facet_desc.specs.declared.field.Field.{Field}
 
