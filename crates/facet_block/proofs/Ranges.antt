@@ -1,5 +1,5 @@
 -- What lies in and beside a range of a block, before and after a change.
-use Rattle.std.proofs.Common.{◌≡◌, ◌≢◌, ℕ, zero, suc, ◌+◌, ◌-◌, ◌<◌, ◌≤◌, ◌⊎◌, inl, inr, List, ◌++◌, take, drop, replicate, length, slice_get, unwrap_or, Option, None, refl, ap, sym, ◌∙◌, arith, length-take, length-drop}
+use Rattle.std.proofs.Common.{◌≡◌, ◌≢◌, ℕ, zero, suc, ◌+◌, ◌-◌, ◌<◌, ◌≤◌, inl, inr, List, ◌++◌, take, drop, replicate, length, slice_get, unwrap_or, Option, None, refl, ap, sym, ◌∙◌, arith, length-take, length-drop}
 use Rattle.std.proofs.Math.ListN.{get_or, length-replicate}
 use Rattle.std.proofs.Math.Seq.{length_paste_head}
 use Rattle.std.proofs.lemmas.List.{length-set, get_or-take, get_or-drop, get_or-replicate, get_or_append_left, get_or-append_right, get_or-set_same, get_or-set_other}

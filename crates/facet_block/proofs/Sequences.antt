@@ -3,9 +3,10 @@ use Rattle.std.proofs.Common.{◌≡◌, ℕ, ◌+◌, ◌<◌, [], ◌∷◌, �
 use Rattle.std.proofs.lemmas.List.{replicate_more}
 use Rattle.facet_block.specs.declared.block.Block.{Block}
 use Rattle.facet_block.specs.declared.block.Seq.{Seq, out-Seq, out-roll-Seq, roll-out-Seq}
-use Rattle.facet_block.specs.Block.{make_seq, filled_of, spare_of, element_size_of, empty_block, with_filled, with_new_spare}
+use Rattle.facet_block.specs.Block.{empty_block}
+use Rattle.facet_block.specs.Seq.{make_seq, filled_of, spare_of, element_size_of, with_filled, with_new_spare}
 use Rattle.facet_base.proofs.Lists.{some_there}
-use Rattle.facet_block.proofs.Elements.{changed_to, get_changed_to, set_changed_to, changed_to_all}
+use Rattle.facet_block.proofs.ChangedLists.{changed_to, get_changed_to, set_changed_to, changed_to_all}
 
 module _ {X : Type 0} (s : Seq X) where
   pub with_new_spare_0 : with_new_spare s 0 ≡ s

@@ -1,6 +1,7 @@
+use crate::laws::put_and_read;
 use crate::{
     Block, DropLog, ItemKind, PtrConst, PtrMut, PtrUninit, Seq, alloc_for_layout,
-    dealloc_for_layout, put_and_read,
+    dealloc_for_layout,
 };
 use facet_base::Layout;
 use std::test::Fail;

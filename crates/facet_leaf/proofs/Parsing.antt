@@ -15,18 +15,20 @@ use Rattle.facet_base.specs.Numeral.{are_digits, number_after, without_plus}
 use Rattle.facet_base.specs.declared.scalar_type.ScalarType.{ScalarType}
 use Rattle.facet_base.specs.declared.scalar_type.ScalarType.TheVariants as kind
 use Rattle.facet_base.proofs.Numerals.{signed_in, signed_parsed, unsigned_below, unsigned_parsed}
-use Rattle.facet_leaf.specs.declared.scalar.Scalar.{Scalar}
-use Rattle.facet_leaf.specs.declared.scalar.Scalar.TheVariants as scalar
-use Rattle.facet_leaf.specs.Scalar.{has_negative, signed_of, whole_of}
-use Rattle.facet_leaf.specs.ScalarTexts.{has_minus, only, scalar_parsed, truth_of, whole_parsed}
+use Rattle.facet_leaf.specs.declared.scalars.scalar.Scalar.{Scalar}
+use Rattle.facet_leaf.specs.declared.scalars.scalar.Scalar.TheVariants as scalar
+use Rattle.facet_leaf.specs.scalars.Scalar.{has_negative, signed_of, whole_of}
+use Rattle.facet_leaf.specs.scalars.ScalarTexts.{has_minus, only, scalar_parsed, truth_of, whole_parsed}
 
+-- two texts that differ are not equal as bytes
 unequal : (xs ys : List ℕ) → (xs ≢ ys) → bytes_eq xs ys ≡ false
 unequal xs ys h = false_from_ne_true (bytes_eq xs ys) (λ e. h ((bytes_eq-Decides xs ys).0 e))
 
-pub truth-parsed : {E : Type 0} (text : List ℕ) (r : Result Bool E) → ParsesBool text r → result_ok r ≡ truth_of text
-truth-parsed text (Ok true) h = sym (ap truth_of h)
-truth-parsed text (Ok false) h = sym (ap truth_of h)
-truth-parsed text (Err e) h = rw (unequal text true_text h.0, unequal text false_text h.1) refl
+-- the truth value that `parse` reads
+pub truth_parsed : {E : Type 0} (text : List ℕ) (r : Result Bool E) → ParsesBool text r → result_ok r ≡ truth_of text
+truth_parsed text (Ok true) h = sym (ap truth_of h)
+truth_parsed text (Ok false) h = sym (ap truth_of h)
+truth_parsed text (Err e) h = rw (unequal text true_text h.0, unequal text false_text h.1) refl
 
 -- a text that no one character spells has not one character
 not_alone : (text : List ℕ) → IsUtf8 text → ((c : ℕ) → IsScalar c → text ≢ encode_utf8 c) → (cs : List ℕ) → chars text ≡ cs → None ≡ only cs
@@ -37,9 +39,10 @@ not_alone text u h (c ∷ []) e =
     absurd (h c (and_parts _ _ valid).0 (sym spelled ∙ append-nil (encode_utf8 c)))
 not_alone text u h (c ∷ d ∷ cs) e = refl
 
-pub character-parsed : {E : Type 0} (text : List ℕ) (r : Result ℕ E) → IsUtf8 text → ParsesChar text r → result_ok r ≡ only (chars text)
-character-parsed text (Ok c) u h = sym (ap only (chars_past_char text [] c u (h ∙ sym (append-nil (encode_utf8 c))) ∙ ap (λ cs. c ∷ cs) chars-nil))
-character-parsed text (Err e) u h = not_alone text u h (chars text) refl
+-- the character that `parse` reads
+pub character_parsed : {E : Type 0} (text : List ℕ) (r : Result ℕ E) → IsUtf8 text → ParsesChar text r → result_ok r ≡ only (chars text)
+character_parsed text (Ok c) u h = sym (ap only (chars_past_char text [] c u (h ∙ sym (append-nil (encode_utf8 c))) ∙ ap (λ cs. c ∷ cs) chars-nil))
+character_parsed text (Err e) u h = not_alone text u h (chars text) refl
 
 -- a number from a limit on
 beyond : {A : Type 0} (f : A → Scalar) (x : A) (limit n : ℕ) → limit ≤ n → option_map f (cond (nat_lt n limit) (Some x) None) ≡ None
