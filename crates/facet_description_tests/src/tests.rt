@@ -1,10 +1,22 @@
 mod attributes;
-mod builders;
+mod capabilities;
+mod declarations;
+mod definitions;
+mod fields;
+mod identity;
+mod memory;
 mod proxies;
+mod questions;
+mod registry;
+mod shapes;
 mod types;
+mod variants;
 
-use crate::{Attr, AttrData, Field, FieldBuilder, Variant, VariantBuilder};
-use facet_base::{Many, ShapeId, Text};
+use facet_base::{HookId, Layout, Many, ShapeId, Text};
+use facet_desc::{Attr, AttrData, Field, FieldBuilder, ProxyDef, Variant, VariantBuilder};
+use facet_leaf::Scalar;
+use facet_shape::{Shape, ShapeBuilder};
+use facet_shapes::Shapes;
 use std::alloc::{AllocError, Global};
 
 // An attribute that holds a number.
@@ -44,6 +56,22 @@ fn variant_with(alloc: Global, attributes: Many<Attr>) -> Result<Variant, AllocE
     )
 }
 
+// The proxy of a shape.
+fn proxy(shape: u32) -> ProxyDef {
+    ProxyDef {
+        shape: ShapeId(shape),
+        convert_in: HookId(10),
+        convert_out: HookId(11),
+    }
+}
+
+// One attribute, and one line of description.
+fn lists(alloc: Global) -> Result<(Many<Attr>, Many<Text>), AllocError> {
+    let attributes = one_attribute(alloc, None, "k")?;
+    let doc = list_of_one(alloc, Text::new(alloc, " A line.")?)?;
+    Ok((attributes, doc))
+}
+
 // No answer holds but those at these indices; at an index of 9 there is none.
 fn true_at(first: usize, second: usize) -> [bool; 9] {
     let mut answers = [false; 9];
@@ -54,4 +82,23 @@ fn true_at(first: usize, second: usize) -> [bool; 9] {
         answers[second] = true;
     }
     answers
+}
+
+// The shape of a type of eight bytes, with nothing else set.
+fn begin(alloc: Global, identifier: Text) -> ShapeBuilder {
+    Shape::builder_for_sized(alloc, identifier, Layout { size: 8, align: 8 })
+}
+
+// The id under which a shape is added, where it is one and there is memory.
+fn push(shapes: &mut Shapes<Scalar>, builder: ShapeBuilder) -> Option<u32> {
+    if shapes.len() >= 100 {
+        return None;
+    }
+    let Ok(shape) = builder.build() else {
+        return None;
+    };
+    match shapes.push(shape) {
+        Ok(id) => Some(id.0),
+        Err(_) => None,
+    }
 }

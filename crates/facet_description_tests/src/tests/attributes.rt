@@ -1,6 +1,6 @@
 use super::{attribute, field_with, one_attribute, true_at, variant_with};
-use crate::{Attr, AttrData, AttrKind, Field, Variant};
 use facet_base::{Many, ShapeId, Text};
+use facet_desc::{Attr, AttrData, AttrKind, Field, Variant};
 use std::alloc::{AllocError, Global};
 use std::test::Fail;
 

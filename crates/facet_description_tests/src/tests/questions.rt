@@ -1,12 +1,11 @@
-use crate::tests::begin;
-use crate::{Shape, ShapeBuilder, try_from_shape};
-use facet_base::{HookId, KnownPointer, Many, PointerFlags, ScalarType, ShapeFlags, ShapeId, Text};
+use super::{begin, one_attribute, proxy};
+use facet_base::{HookId, KnownPointer, Many, PointerFlags, ShapeFlags, ShapeId, Text};
 use facet_caps::{PointerVTable, SliceBuilderVTable, TypeOpsDirect, VTableDirect};
 use facet_def::{Def, PointerDef};
 use facet_desc::{
-    Attr, AttrData, EnumRepr, EnumTypeBuilder, FormatProxy, OpaqueAdapterDef, PrimitiveType,
-    ProxyDef, Ty, UserType,
+    EnumRepr, EnumTypeBuilder, OpaqueAdapterDef, PrimitiveType, ProxyDef, Ty, UserType,
 };
+use facet_shape::{Shape, ShapeBuilder};
 use std::alloc::{AllocError, Global};
 use std::test::Fail;
 
@@ -16,35 +15,6 @@ const OPERATIONS: TypeOpsDirect = TypeOpsDirect {
     clone_into: false,
     is_truthy: false,
 };
-
-// Two builtin attributes of a key, with the numbers 1 and 2.
-fn attributes(alloc: Global, key: &str) -> Result<Many<Attr>, AllocError> {
-    let mut attributes = Many::new(alloc);
-    for number in [1, 2] {
-        attributes.push(Attr::new(None, Text::new(alloc, key)?, AttrData::Int(number)))?;
-    }
-    Ok(attributes)
-}
-
-fn proxy(shape: u32) -> ProxyDef {
-    ProxyDef {
-        shape: ShapeId(shape),
-        convert_in: HookId(1),
-        convert_out: HookId(2),
-    }
-}
-
-// Two proxies for one format, by the shapes 21 and 22.
-fn format_proxies(alloc: Global) -> Result<Many<FormatProxy>, AllocError> {
-    let mut proxies = Many::new(alloc);
-    for shape in [21, 22] {
-        proxies.push(FormatProxy {
-            format: Text::new(alloc, "json")?,
-            proxy: proxy(shape),
-        })?;
-    }
-    Ok(proxies)
-}
 
 // An enum whose values are borrowed or owned.
 fn cow(alloc: Global) -> Ty {
@@ -95,10 +65,10 @@ fn built_answers(builder: ShapeBuilder) -> Option<[bool; 12]> {
     }
 }
 
-// What a shape with attributes of this key answers.
-fn with_attributes(alloc: Global, key: &str) -> Result<Option<[bool; 12]>, AllocError> {
+// What a shape with an attribute of this key answers.
+fn with_attribute(alloc: Global, key: &str) -> Result<Option<[bool; 12]>, AllocError> {
     let identifier = Text::new(alloc, "Point")?;
-    let attributes = attributes(alloc, key)?;
+    let attributes = one_attribute(alloc, None, key)?;
     Ok(built_answers(begin(alloc, identifier).attributes(attributes)))
 }
 
@@ -151,7 +121,7 @@ fn each_question_reads_its_own_member(rt: HostRuntime) -> Result<(), Fail> {
         (2, "transparent"),
         (12, "rename"),
     ] {
-        assert_eq!(rt; with_attributes(rt.alloc(), key)?, only(index));
+        assert!(rt; with_attribute(rt.alloc(), key)? == only(index));
     }
     for (index, flag) in [
         (3, ShapeFlags::UNTAGGED),
@@ -159,10 +129,10 @@ fn each_question_reads_its_own_member(rt: HostRuntime) -> Result<(), Fail> {
         (5, ShapeFlags::METADATA_CONTAINER),
         (6, ShapeFlags::POD),
     ] {
-        assert_eq!(rt; with_flag(rt.alloc(), flag)?, only(index));
+        assert!(rt; with_flag(rt.alloc(), flag)? == only(index));
     }
     for index in 6..13 {
-        assert_eq!(rt; with_member(rt.alloc(), index)?, only(index));
+        assert!(rt; with_member(rt.alloc(), index)? == only(index));
     }
     Ok(())
 }
@@ -216,114 +186,7 @@ fn each_capability_is_read_off_its_own_member(rt: HostRuntime) -> Result<(), Fai
     for index in 0..9 {
         let mut expected = [false; 9];
         expected[index] = true;
-        assert_eq!(rt; able(rt.alloc(), index)?, Some(expected));
+        assert!(rt; able(rt.alloc(), index)? == Some(expected));
     }
-    Ok(())
-}
-
-// The length of a text, where there is one.
-fn length(text: Option<&str>) -> Option<usize> {
-    match text {
-        Some(text) => Some(text.len()),
-        None => None,
-    }
-}
-
-// The lengths of the shape's name, tag and content.
-fn lengths(shape: &Shape) -> [Option<usize>; 3] {
-    [
-        Some(shape.effective_name().len()),
-        length(shape.get_tag_attr()),
-        length(shape.get_content_attr()),
-    ]
-}
-
-// Its lengths, and its kind of scalar, which is asked in two ways.
-fn members(builder: ShapeBuilder) -> Option<([Option<usize>; 3], [Option<ScalarType>; 2])> {
-    match builder.build() {
-        Ok(shape) => Some((
-            lengths(&shape),
-            [shape.scalar_type(), try_from_shape(&shape)],
-        )),
-        Err(_) => None,
-    }
-}
-
-// The shape of a proxy, where there is one.
-fn shape_of(proxy: Option<&ProxyDef>) -> Option<ShapeId> {
-    match proxy {
-        Some(proxy) => Some(proxy.shape),
-        None => None,
-    }
-}
-
-// The shapes of the proxies that are found for a format, listed or not, and for no format.
-fn proxies(shape: &Shape, format: &str) -> [Option<ShapeId>; 3] {
-    [
-        shape_of(shape.format_proxy(format)),
-        shape_of(shape.effective_proxy(Some(format))),
-        shape_of(shape.effective_proxy(None)),
-    ]
-}
-
-// The proxies that are found where one is general and two are for `json`.
-fn found_proxies(alloc: Global, format: &str) -> Result<Option<[Option<ShapeId>; 3]>, AllocError> {
-    let identifier = Text::new(alloc, "Point")?;
-    let listed = format_proxies(alloc)?;
-    let builder = begin(alloc, identifier).proxy(proxy(20));
-    match builder.format_proxies(listed).build() {
-        Ok(shape) => Ok(Some(proxies(&shape, format))),
-        Err(_) => Ok(None),
-    }
-}
-
-// The number in the first attribute of a key.
-fn number(shape: &Shape, key: &str) -> Option<i128> {
-    match shape.get_builtin_attr_value(key) {
-        Some(AttrData::Int(number)) => Some(*number),
-        _ => None,
-    }
-}
-
-// The number that is found in attributes `default`.
-fn found_number(alloc: Global) -> Result<Option<i128>, AllocError> {
-    let identifier = Text::new(alloc, "Point")?;
-    let attributes = attributes(alloc, "default")?;
-    match begin(alloc, identifier).attributes(attributes).build() {
-        Ok(shape) => Ok(number(&shape, "default")),
-        Err(_) => Ok(None),
-    }
-}
-
-#[test]
-fn members_and_the_first_of_a_list_are_found(rt: HostRuntime) -> Result<(), Fail> {
-    let alloc = rt.alloc();
-    let identifier = Text::new(alloc, "Point")?;
-    let found = members(begin(alloc, identifier));
-    assert_eq!(rt; found, Some(([Some(5), None, None], [None; 2])));
-    let identifier = Text::new(alloc, "Point")?;
-    let name = Text::new(alloc, "P")?;
-    let tag = Text::new(alloc, "kind")?;
-    let content = Text::new(alloc, "content")?;
-    let found = members(
-        begin(alloc, identifier)
-            .rename(name)
-            .tag(tag)
-            .content(content)
-            .scalar(ScalarType::U32),
-    );
-    let kind = Some(ScalarType::U32);
-    assert_eq!(rt; found, Some(([Some(1), Some(4), Some(7)], [kind; 2])));
-    let general = Some(ShapeId(20));
-    let first = Some(ShapeId(21));
-    assert_eq!(rt;
-        found_proxies(alloc, "json")?,
-        Some([first, first, general])
-    );
-    assert_eq!(rt;
-        found_proxies(alloc, "xml")?,
-        Some([None, general, general])
-    );
-    assert_eq!(rt; found_number(alloc)?, Some(1));
     Ok(())
 }
