@@ -14,8 +14,6 @@ mod pointer_def;
 mod result_def;
 mod set_def;
 mod slice_def;
-#[cfg(test)]
-mod tests;
 
 pub use array_def::ArrayDef;
 pub use def::Def;

@@ -11,8 +11,6 @@ mod proxies;
 mod scalar;
 mod shape;
 mod shape_builder;
-#[cfg(test)]
-mod tests;
 
 pub use errors::{AllocateError, MissingDeclId, ShapeMismatch};
 pub use scalar::try_from_shape;

@@ -1,16 +1,8 @@
-use crate::{Field, FieldBuilder, FormatProxy, ProxyDef};
+use super::proxy;
 use facet_base::{HookId, Many, ShapeId, Text};
+use facet_desc::{Field, FieldBuilder, FormatProxy, ProxyDef};
 use std::alloc::{AllocError, Global};
 use std::test::Fail;
-
-// The proxy of a shape.
-fn proxy(shape: u32) -> ProxyDef {
-    ProxyDef {
-        shape: ShapeId(shape),
-        convert_in: HookId(10),
-        convert_out: HookId(11),
-    }
-}
 
 fn format_proxy(alloc: Global, format: &str, shape: u32) -> Result<FormatProxy, AllocError> {
     Ok(FormatProxy {

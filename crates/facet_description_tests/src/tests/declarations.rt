@@ -1,9 +1,9 @@
-use crate::ShapeBuilder;
-use crate::tests::begin;
+use super::begin;
 use facet_base::{DeclId, Many, ShapeId, Text};
 use facet_caps::ArrayVTable;
 use facet_def::{ArrayDef, Def};
 use facet_desc::{ConstParam, ConstParamKind, TypeParam};
+use facet_shape::ShapeBuilder;
 use std::alloc::{AllocError, Global};
 use std::test::Fail;
 
@@ -42,12 +42,12 @@ fn built(builder: ShapeBuilder) -> Option<(bool, u128)> {
     }
 }
 
-// What is built of a type with a type parameter and no module path.
-fn without_path(alloc: Global, decl_id: u128) -> Result<Option<(bool, u128)>, AllocError> {
+// What is built of a type with a type parameter, this declaration id and no module path; 0 is no id.
+fn without_path(alloc: Global, id: u128) -> Result<Option<(bool, u128)>, AllocError> {
     let identifier = Text::new(alloc, "Grid")?;
     let params = type_param(alloc)?;
     let builder = begin(alloc, identifier).type_params(params);
-    Ok(built(builder.decl_id(DeclId(decl_id))))
+    Ok(built(builder.decl_id(DeclId(id))))
 }
 
 // What is built of a type with a module path and no parameters.
@@ -67,14 +67,20 @@ fn generic(alloc: Global) -> Result<Option<(bool, u128)>, AllocError> {
 }
 
 // The hashes are those of `Grid` and of `@geometry#array#Grid`.
+const HASH: u128 = 138851089735242672527269273822017239145;
+
+const GENERIC_HASH: u128 = 79999020198012046017194262597885632006;
+
 #[test]
 fn a_declaration_id_is_the_given_one_or_a_hash(rt: HostRuntime) -> Result<(), Fail> {
-    let alloc = rt.alloc();
-    let hash = 138851089735242672527269273822017239145;
-    let generic_hash = 79999020198012046017194262597885632006;
-    assert_eq!(rt; without_path(alloc, 7)?, Some((false, 7)));
-    assert_eq!(rt; without_path(alloc, 0)?, None);
-    assert_eq!(rt; without_parameters(alloc)?, Some((false, hash)));
-    assert_eq!(rt; generic(alloc)?, Some((true, generic_hash)));
+    assert!(rt; without_path(rt.alloc(), 7)? == Some((false, 7)));
+    assert!(rt; without_parameters(rt.alloc())? == Some((false, HASH)));
+    assert!(rt; generic(rt.alloc())? == Some((true, GENERIC_HASH)));
+    Ok(())
+}
+
+#[test]
+fn a_generic_type_with_neither_id_nor_module_path_is_refused(rt: HostRuntime) -> Result<(), Fail> {
+    assert!(rt; without_path(rt.alloc(), 0)? == None);
     Ok(())
 }

@@ -1,18 +1,8 @@
-use super::{list_of_one, one_attribute, true_at};
-use crate::{
-    Attr, DefaultSource, EnumRepr, EnumType, EnumTypeBuilder, Field, FieldBuilder, Repr,
-    StructKind, StructType, Variant, VariantBuilder,
-};
-use facet_base::{FieldFlags, HookId, Many, ShapeId, Text};
+use super::{lists, true_at};
+use facet_base::{FieldFlags, HookId, ShapeId, Text};
+use facet_desc::{DefaultSource, Field, FieldBuilder};
 use std::alloc::{AllocError, Global};
 use std::test::Fail;
-
-// One attribute, and one line of description.
-fn lists(alloc: Global) -> Result<(Many<Attr>, Many<Text>), AllocError> {
-    let attributes = one_attribute(alloc, None, "k")?;
-    let doc = list_of_one(alloc, Text::new(alloc, " A line.")?)?;
-    Ok((attributes, doc))
-}
 
 // A new name, an alias and a kind of metadata.
 fn texts(alloc: Global) -> Result<(Text, Text, Text), AllocError> {
@@ -121,8 +111,8 @@ fn a_field_has_what_was_set_and_nothing_else(rt: HostRuntime) -> Result<(), Fail
     Ok(())
 }
 
-// What is asked of a field by its flags, and at the last three indices by its other members.
-fn flag_questions(field: &Field) -> [bool; 9] {
+// What a field answers by its flags, and in the last three places by its other members.
+fn flag_answers(field: &Field) -> [bool; 9] {
     [
         field.is_flattened(),
         field.is_sensitive(),
@@ -137,10 +127,10 @@ fn flag_questions(field: &Field) -> [bool; 9] {
 }
 
 // The same of a field of which only the flags are set.
-fn questions_by(alloc: Global, flags: FieldFlags) -> Result<[bool; 9], AllocError> {
+fn answers_to(alloc: Global, flags: FieldFlags) -> Result<[bool; 9], AllocError> {
     let name = Text::new(alloc, "a")?;
     let builder = FieldBuilder::new(alloc, name, ShapeId(6), 8);
-    Ok(flag_questions(&builder.flags(flags).build()))
+    Ok(flag_answers(&builder.flags(flags).build()))
 }
 
 // Flags, and the indices of what alone holds of a field that has them; at an index of 9 there is none.
@@ -160,101 +150,7 @@ fn flag_rows() -> [(FieldFlags, usize, usize); 8] {
 #[test]
 fn a_field_reads_its_flags(rt: HostRuntime) -> Result<(), Fail> {
     for (flags, first, second) in flag_rows() {
-        assert!(rt; questions_by(rt.alloc(), flags)? == true_at(first, second));
+        assert!(rt; answers_to(rt.alloc(), flags)? == true_at(first, second));
     }
-    Ok(())
-}
-
-// A variant of which every member is set, with one field.
-fn tuple_variant(alloc: Global) -> Result<Variant, AllocError> {
-    let (name, rename) = (Text::new(alloc, "A")?, Text::new(alloc, "b")?);
-    let (attributes, doc) = lists(alloc)?;
-    let fields = list_of_one(alloc, fresh_field(alloc)?)?;
-    let builder = VariantBuilder::tuple(alloc, name, fields)
-        .rename(rename)
-        .attributes(attributes)
-        .doc(doc)
-        .discriminant(-1);
-    Ok(builder.build())
-}
-
-// Whether it goes by a name; how many fields, attributes and lines of description it has; its body's kind and
-// representation; and its discriminant.
-type VariantSummary = (bool, [usize; 3], StructKind, Repr, Option<i64>);
-
-fn summary(variant: &Variant, name: &str) -> VariantSummary {
-    let counts = [
-        variant.body.fields.len(),
-        variant.attributes.len(),
-        variant.doc.len(),
-    ];
-    let is_named = variant.effective_name() == name;
-    let (kind, repr) = (variant.body.kind, variant.body.repr);
-    (is_named, counts, kind, repr, variant.discriminant)
-}
-
-fn unit_summary(alloc: Global) -> Result<VariantSummary, AllocError> {
-    let name = Text::new(alloc, "A")?;
-    Ok(summary(&VariantBuilder::unit(alloc, name).build(), "A"))
-}
-
-fn tuple_summary(alloc: Global) -> Result<VariantSummary, AllocError> {
-    Ok(summary(&tuple_variant(alloc)?, "b"))
-}
-
-#[test]
-fn a_variant_has_its_body_and_what_was_set(rt: HostRuntime) -> Result<(), Fail> {
-    let unit = unit_summary(rt.alloc())?;
-    assert!(rt; unit == (true, [0; 3], StructKind::Unit, Repr::C, None));
-    let tuple = tuple_summary(rt.alloc())?;
-    assert!(rt; tuple == (true, [1; 3], StructKind::TupleStruct, Repr::RUST, Some(-1)));
-    Ok(())
-}
-
-fn numbered_variant(alloc: Global, name: &str, discriminant: i64) -> Result<Variant, AllocError> {
-    let name = Text::new(alloc, name)?;
-    let builder = VariantBuilder::new(alloc, name, StructType::unit(alloc));
-    Ok(builder.discriminant(discriminant).build())
-}
-
-// Two variants of each name.
-fn cow_variants(alloc: Global) -> Result<Many<Variant>, AllocError> {
-    let mut variants = Many::new(alloc);
-    for (name, discriminant) in [("Borrowed", 1), ("Owned", 2), ("Owned", 3), ("Borrowed", 4)] {
-        variants.push(numbered_variant(alloc, name, discriminant)?)?;
-    }
-    Ok(variants)
-}
-
-fn discriminant_of(variant: Option<&Variant>) -> Option<i64> {
-    variant?.discriminant
-}
-
-// An enum's representation, and the discriminants of its borrowed and its owned variant.
-fn parts(enum_type: &EnumType) -> (Repr, [Option<i64>; 2]) {
-    let borrowed = discriminant_of(enum_type.borrowed_variant());
-    let owned = discriminant_of(enum_type.owned_variant());
-    (enum_type.repr, [borrowed, owned])
-}
-
-// The same of an enum of these variants, whose values are borrowed or owned, or aren't.
-fn parts_of(variants: Many<Variant>, cow: bool) -> (Repr, [Option<i64>; 2]) {
-    let builder = EnumTypeBuilder::new(EnumRepr::U8, variants);
-    let enum_type = if cow {
-        builder.repr(Repr::RUST).cow().build()
-    } else {
-        builder.build()
-    };
-    parts(&enum_type)
-}
-
-#[test]
-fn an_enum_has_its_two_variants_where_it_is_borrowed_or_owned(rt: HostRuntime) -> Result<(), Fail> {
-    let (repr, found) = parts_of(cow_variants(rt.alloc())?, false);
-    assert!(rt; repr == Repr::C);
-    assert!(rt; found == [None, None]);
-    let (repr, found) = parts_of(cow_variants(rt.alloc())?, true);
-    assert!(rt; repr == Repr::RUST);
-    assert!(rt; found == [Some(1), Some(2)]);
     Ok(())
 }

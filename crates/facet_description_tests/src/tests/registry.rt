@@ -1,16 +1,13 @@
-use crate::{
-    Shapes, ValueKind, all, all_default, all_hash, all_ord, all_partial_eq, all_partial_ord, any,
-    none,
-};
+use super::push;
 use facet_base::{
-    Characteristic, Flags, KnownPointer, Layout, Many, MarkerTraits, PointerFlags, ShapeId,
-    ShapeLayout, Text,
+    Flags, KnownPointer, Layout, Many, MarkerTraits, PointerFlags, ShapeId, ShapeLayout, Text,
 };
-use facet_caps::{PointerVTable, SliceVTable, TypeOpsDirect, VTableDirect};
+use facet_caps::{PointerVTable, SliceVTable};
 use facet_def::{Def, PointerDef, SliceDef};
 use facet_desc::{StructKind, Ty};
 use facet_leaf::Scalar;
 use facet_shape::{Shape, ShapeBuilder};
+use facet_shapes::{Shapes, ValueKind};
 use std::alloc::{AllocError, Global};
 use std::test::Fail;
 
@@ -71,7 +68,7 @@ fn beginning(alloc: Global) -> Result<(Option<u32>, [usize; 2], bool), AllocErro
 
 #[test]
 fn the_sixteen_scalars_have_their_names_layouts_and_modules(rt: HostRuntime) -> Result<(), Fail> {
-    assert_eq!(rt; beginning(rt.alloc())?, (None, [16, 16], true));
+    assert!(rt; beginning(rt.alloc())? == (None, [16, 16], true));
     Ok(())
 }
 
@@ -98,21 +95,7 @@ fn draft(alloc: Global, identifier: Text, index: usize) -> ShapeBuilder {
     }
 }
 
-// The id under which a shape is added, where it is one and there is memory.
-fn push(shapes: &mut Shapes<Scalar>, builder: ShapeBuilder) -> Option<u32> {
-    if shapes.len() >= 100 {
-        return None;
-    }
-    let Ok(shape) = builder.build() else {
-        return None;
-    };
-    match shapes.push(shape) {
-        Ok(id) => Some(id.0),
-        Err(_) => None,
-    }
-}
-
-// The same of the draft at an index.
+// The id under which the draft at an index is added, where there is memory.
 fn push_draft(shapes: &mut Shapes<Scalar>, alloc: Global, index: usize) -> Option<u32> {
     match Text::new(alloc, "T") {
         Ok(identifier) => push(shapes, draft(alloc, identifier, index)),
@@ -160,7 +143,7 @@ fn kinds_go_by_scalar_and_definition_and_type(rt: HostRuntime) -> Result<(), Fai
         Some(ValueKind::NoValue),
         Some(ValueKind::Struct),
     ];
-    assert_eq!(rt; drafted_kinds(rt.alloc())?, expected);
+    assert!(rt; drafted_kinds(rt.alloc())? == expected);
     Ok(())
 }
 
@@ -186,95 +169,8 @@ fn drafts_are_added_and_cut(rt: HostRuntime) -> Result<(), Fail> {
     shapes.cut();
     let cut = counts_and_id(&shapes);
     drop(shapes);
-    assert_eq!(rt; ids, [Some(16), Some(17)]);
-    assert_eq!(rt; drafted, (18, 16, Some(17)));
-    assert_eq!(rt; cut, (16, 16, None));
-    Ok(())
-}
-
-// What is offered and asked of the shapes of the unit, of `u32` and of the two, and under an id without a shape.
-fn offers(shapes: &Shapes<Scalar>) -> [bool; 9] {
-    let display = Characteristic::Display;
-    let both = [ShapeId(0), ShapeId(6)];
-    let both = both.as_slice();
-    let unit = [ShapeId(0)];
-    let unit = unit.as_slice();
-    [
-        shapes.offers(ShapeId(0), display),
-        shapes.offers(ShapeId(6), display),
-        shapes.offers(ShapeId(16), display),
-        all(shapes, Characteristic::Debug, both),
-        all(shapes, display, both),
-        any(shapes, display, both),
-        any(shapes, display, unit),
-        none(shapes, display, both),
-        none(shapes, display, unit),
-    ]
-}
-
-// The five questions over lists, in the order of their names.
-fn questions(shapes: &Shapes<Scalar>, ids: &[ShapeId]) -> [bool; 5] {
-    [
-        all_default(shapes, ids),
-        all_hash(shapes, ids),
-        all_ord(shapes, ids),
-        all_partial_eq(shapes, ids),
-        all_partial_ord(shapes, ids),
-    ]
-}
-
-// What is offered by the scalars, and the five questions of none of them and of `String` and `u32`.
-fn scalar_answers(alloc: Global) -> Result<([bool; 9], [bool; 5], [bool; 5]), AllocError> {
-    let shapes: Shapes<Scalar> = Shapes::prelude(alloc)?;
-    let of_none = questions(&shapes, [].as_slice());
-    let of_two = questions(&shapes, [ShapeId(3), ShapeId(6)].as_slice());
-    Ok((offers(&shapes), of_none, of_two))
-}
-
-#[test]
-fn what_values_can_is_asked_of_lists_of_shapes(rt: HostRuntime) -> Result<(), Fail> {
-    let offered = [false, true, false, true, false, true, false, false, true];
-    let expected = (offered, [true; 5], [true; 5]);
-    assert_eq!(rt; scalar_answers(rt.alloc())?, expected);
-    Ok(())
-}
-
-// A draft that says that its values can do what the question at an index asks, and nothing else.
-fn able_draft(alloc: Global, identifier: Text, index: usize) -> ShapeBuilder {
-    let vtable = VTableDirect {
-        hash: index == 1,
-        cmp: index == 2,
-        partial_eq: index == 3,
-        partial_cmp: index == 4,
-        ..VTableDirect::empty()
-    };
-    let operations = TypeOpsDirect {
-        drop_in_place: false,
-        default_in_place: index == 0,
-        clone_into: false,
-        is_truthy: false,
-    };
-    ShapeBuilder::for_unsized(alloc, identifier)
-        .vtable_direct(vtable)
-        .type_ops_direct(operations)
-}
-
-// The five questions of `u32` and that draft.
-fn draft_answers(alloc: Global, index: usize) -> Result<Option<[bool; 5]>, AllocError> {
-    let identifier = Text::new(alloc, "T")?;
-    let mut shapes: Shapes<Scalar> = Shapes::prelude(alloc)?;
-    match push(&mut shapes, able_draft(alloc, identifier, index)) {
-        Some(id) => Ok(Some(questions(&shapes, [ShapeId(6), ShapeId(id)].as_slice()))),
-        None => Ok(None),
-    }
-}
-
-#[test]
-fn each_question_over_a_list_reads_its_own_member(rt: HostRuntime) -> Result<(), Fail> {
-    for index in 0..5 {
-        let mut expected = [false; 5];
-        expected[index] = true;
-        assert_eq!(rt; draft_answers(rt.alloc(), index)?, Some(expected));
-    }
+    assert!(rt; ids == [Some(16), Some(17)]);
+    assert!(rt; drafted == (18, 16, Some(17)));
+    assert!(rt; cut == (16, 16, None));
     Ok(())
 }

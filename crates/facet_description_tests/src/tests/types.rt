@@ -1,9 +1,9 @@
-use crate::{
+use facet_base::{Many, ShapeId, Text};
+use facet_desc::{
     ArrayType, BaseRepr, EnumRepr, FunctionAbi, FunctionPointerDef, PointerType, PrimitiveType,
     Repr, SequenceType, SliceType, StructKind, StructTypeBuilder, Ty, TypeParam, UserType,
     ValuePointerType,
 };
-use facet_base::{Many, ShapeId, Text};
 use std::alloc::Global;
 use std::test::Fail;
 
