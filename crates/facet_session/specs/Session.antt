@@ -1,5 +1,5 @@
 -- A session against the interpreter's state.
-use Rattle.std.specs.Prelude.{◌≡◌, List, [], ◌∷◌, length, Contains}
+use Rattle.std.specs.Prelude.{◌≡◌, ◌<◌, List, [], ◌∷◌, length, Contains}
 use Rattle.facet_block.specs.Block.{size_of}
 use Rattle.facet_leaf.specs.LeafModel.{LeafModel}
 use Rattle.facet_shapes.specs.Prelude.{prelude}
@@ -12,10 +12,11 @@ use Rattle.facet_session.specs.State.{Entry, State}
 use Rattle.facet_session.specs.Turn.{Turn, text_of}
 
 module _ {L : Type 0} (m : LeafModel L) where
-  -- a cell has the name and the shape of an entry, and its block, of the shape's size, reads from 0 as the entry's value
+  -- a cell has the name and the shape of an entry, which is sealed, and its block, of the shape's size, reads from 0 as the entry's value
   pub record ShowsEntry (registry : Registry) (cell : Cell L) (entry : Entry L) : Type 0 where
     pub name : cell.name ≡ entry.name
     pub shape : cell.shape.0 ≡ entry.shape
+    pub sealed : entry.shape < registry.sealed
     pub size : size_of cell.block ≡ size_at registry entry.shape
     pub reads : Reads m registry (record { shape = entry.shape; block = cell.block; offset = 0 }) entry.value
 

@@ -115,6 +115,20 @@ module _ {L : Type 0} (m : LeafModel L) where
   scalar_ops k =
       record { drop_in_place = false; default_in_place = m.can k trait.Default; clone_into = m.can k trait.Clone; is_truthy = m.hook k hook.Truthy }
 
+  -- a shape with the members of the scalars of a kind
+  abbrev pub with_scalar : ScalarType → Shape → Shape
+  with_scalar k s =
+      record s {
+        layout = scalar_layout k;
+        vtable = erased.Direct (scalar_vtable k);
+        type_ops = Some (ops.Direct (scalar_ops k));
+        marker_traits = record { bits = scalar_markers k };
+        ty = scalar_ty k;
+        def = def.Scalar;
+        scalar = Some k;
+        module_path = option_or (scalar_module k) s.module_path;
+      }
+
   -- the shape of the scalars of a kind, under an id: what follows from the kind, and nothing else set
   unfoldable pub scalar_shape : ℕ → ScalarType → Shape
   scalar_shape id k =
