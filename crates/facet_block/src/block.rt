@@ -96,7 +96,7 @@ impl<L: Drop> Block<L> {
         ensures items { self.new ≡ moved_in self.old at source.old from size }
         ensures source { source.new ≡ moved_out source.old from size }
     {
-        // proof: the sizes are usizes, so the sums below are
+        // proof: the blocks' sizes are usizes, so the sums below can't overflow
         let _size = self.size();
         let _source_size = source.size();
         for i in 0..size {

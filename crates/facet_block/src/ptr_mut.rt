@@ -43,7 +43,7 @@ impl<'a, L> PtrMut<'a, L> {
         ensures offset { result.offset ≡ self.entry.offset + n }
     {
         let PtrMut { block, offset } = self;
-        // proof: the size is a usize, so the sum below is one
+        // proof: the block's size is a usize, so the sum below can't overflow
         let _size = block.size();
         PtrMut {
             block,
@@ -86,7 +86,7 @@ impl<'a, L> PtrMut<'a, L> {
         ensures same_block { result.block.now ≡ self.old.block.now }
         ensures offset { result.offset ≡ self.old.offset + n }
     {
-        // proof: the size is a usize, so the sum below is one
+        // proof: the block's size is a usize, so the sum below can't overflow
         let _size = self.block.size();
         let offset = self.offset + n;
         let block = &mut *self.block;
@@ -144,7 +144,7 @@ impl<'a, L> PtrMut<'a, L> {
         ensures* lends { sem 𝓛 (LendsSequencePast L.row self.entry n result) }
         ensures value { item_at self.old.block.now (self.old.offset + n) ≡ Some (Sequence result.now) }
     {
-        // proof: the size is a usize, so the sum below is one
+        // proof: the block's size is a usize, so the sum below can't overflow
         let _size = self.block.size();
         let at = self.offset + n;
         self.block.sequence_mut(at)
@@ -234,7 +234,7 @@ impl<'a, L: Drop> PtrMut<'a, L> {
         ensures same_size { size_of self.new.block.now ≡ size_of self.old.block.now }
         ensures puts { self.new ≡ with_item_past self.old n item }
     {
-        // proof: the size is a usize, so the sum below is one
+        // proof: the block's size is a usize, so the sum below can't overflow
         let _size = self.block.size();
         let at = self.offset + n;
         self.block.exchange(at, Some(item));

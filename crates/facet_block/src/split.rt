@@ -73,7 +73,7 @@ impl<T> Split<T> {
         requires { j < length self.now.1 }
         ensures { slice_get self.now.1 j ≡ Some result.now }
     {
-        // proof: the number of items is a usize, so the sum below is one
+        // proof: the number of items is a usize, so the sum below can't overflow
         let _count = self.items.len();
         &self.items[self.front + j]
     }
@@ -93,7 +93,7 @@ impl<T> Split<T> {
         ensures* lends { sem 𝓛 (LendsBack T.row self.entry j result) }
         ensures value { slice_get self.old.1 j ≡ Some result.now }
     {
-        // proof: the number of items is a usize, so the sum below is one
+        // proof: the number of items is a usize, so the sum below can't overflow
         let _count = self.items.len();
         let i = self.front + j;
         &mut self.items[i]
