@@ -5,6 +5,7 @@ use Rattle.facet_block.specs.Block.{items_of, item_at, with_item}
 use Rattle.facet_block.specs.declared.block.Item.{Item}
 use Rattle.facet_block.specs.declared.block.Block.{Block}
 
+-- a list is as it was once an item is put where nothing was, and taken out again
 set_back : {A : Type 0} (xs : List (Option A)) (at : ℕ) (o : Option A) → unwrap_or (slice_get xs at) None ≡ None → slice_set (slice_set xs at o) at None ≡ xs
 set_back [] at o e = refl
 set_back (x ∷ xs) zero o e = ap (λ y. y ∷ xs) (sym e)

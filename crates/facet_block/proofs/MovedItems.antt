@@ -8,6 +8,7 @@ use Rattle.facet_block.specs.Block.{items_of, size_of, item_at, with_item, moved
 use Rattle.facet_block.proofs.Ranges.{item_read, cleared_moved_out}
 
 module _ {X : Type 0} where
+  -- the block of a list of items
   abbrev block_of : List (Option (Item X)) → Block X
   block_of os = record { items = os }
 

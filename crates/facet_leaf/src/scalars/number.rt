@@ -40,6 +40,7 @@ pub(crate) fn read_number(leaf: &Scalar) -> (bool, u128)
     }
 }
 
+// A signed number in that form.
 fn split(z: i128) -> (bool, u128)
     ensures { complement_if result.0 result.1 ≡ z }
 {

@@ -13,7 +13,7 @@ use std::alloc::{AllocError, Global};
 use std::cmp::Ordering;
 
 // stored
-fn is_without_a_place<L: Leaf>(leaf: &L) -> bool
+fn is_of_no_stored_kind<L: Leaf>(leaf: &L) -> bool
     ensures { result ≡ false }
 {
     matches!(leaf.kind(), ScalarType::Unit | ScalarType::Str)
