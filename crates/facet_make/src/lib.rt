@@ -2,6 +2,8 @@
 #![tactic(auto)]
 
 mod leaf;
+#[cfg(test)]
+mod tests;
 mod value;
 
 pub use leaf::leaf_at;

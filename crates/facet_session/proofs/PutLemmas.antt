@@ -13,7 +13,7 @@ use Rattle.facet_shapes.specs.Registry.{Registry, kind_at, size_at, offers}
 use Rattle.facet_shapes.specs.declared.value_kind.ValueKind.{ValueKind}
 use Rattle.facet_shapes.specs.declared.value_kind.ValueKind.TheVariants as kind
 use Rattle.facet_values.proofs.LeafReading.{leaf_block_size, reads_leaf}
-use Rattle.facet_values.specs.Place.{leaf_block}
+use Rattle.facet_values.specs.Place.{leaf_block, start_of}
 use Rattle.facet_values.specs.Reading.{Reads}
 use Rattle.facet_values.specs.Value.{leaf, leaves}
 use Rattle.facet_session.specs.declared.session.Session.{Session}
@@ -77,7 +77,7 @@ module _ {L : Type 0} (m : LeafModel L) where
         shape = refl;
         sealed = sealed;
         size = ap size_of block ∙ leaf_block_size x (size_at registry s);
-        reads = subst (λ b. Reads m registry (record { shape = s; block = b; offset = 0 }) (leaf x)) (sym block) (reads_leaf m registry s x of some);
+        reads = subst (λ b. Reads m registry (start_of s b) (leaf x)) (sym block) (reads_leaf m registry s x of some);
       }
 
   -- a session with such a cell more carries out a `put` of the leaf

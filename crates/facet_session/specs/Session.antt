@@ -4,6 +4,7 @@ use Rattle.facet_block.specs.Block.{size_of}
 use Rattle.facet_leaf.specs.LeafModel.{LeafModel}
 use Rattle.facet_shapes.specs.Prelude.{prelude}
 use Rattle.facet_shapes.specs.Registry.{Registry, size_at}
+use Rattle.facet_values.specs.Place.{start_of}
 use Rattle.facet_values.specs.Reading.{Reads}
 use Rattle.facet_session.specs.declared.session.Session.{Session}
 use Rattle.facet_session.specs.declared.session.Cell.{Cell}
@@ -18,7 +19,7 @@ module _ {L : Type 0} (m : LeafModel L) where
     pub shape : cell.shape.0 ≡ entry.shape
     pub sealed : entry.shape < registry.sealed
     pub size : size_of cell.block ≡ size_at registry entry.shape
-    pub reads : Reads m registry (record { shape = entry.shape; block = cell.block; offset = 0 }) entry.value
+    pub reads : Reads m registry (start_of entry.shape cell.block) entry.value
 
   -- the cells do so, each at its turn
   abbrev pub ShowEntries : Registry → List (Cell L) → List (Entry L) → Type 0

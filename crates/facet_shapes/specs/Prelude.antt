@@ -92,7 +92,7 @@ prelude_kinds =
     ∷ []
 
 module _ {L : Type 0} (m : LeafModel L) where
-  -- what can be asked of the scalars of a kind: of the unit its equality, order, hash and debug text, of leaves what their model says
+  -- what can be asked of the scalars of a kind: of the unit its equality, order, hash and debug text, of leaves what the leaf semantics say
   abbrev pub scalar_vtable : ScalarType → VTableDirect
   scalar_vtable scalar.Unit = record empty_direct { debug = true; hash = true; partial_eq = true; partial_cmp = true; cmp = true }
   scalar_vtable k =

@@ -1,8 +1,9 @@
 -- What a place of leaves reads as, and what a block with a leaf at its start does.
-use Rattle.std.proofs.Common.{◌≡◌, ℕ, ◌+◌, ◌<◌, ◌≤◌, ◌⊎◌, [], Option, None, Some, All, refl, ap, ◌∙◌, subst, arith, zero-add}
+use Rattle.std.proofs.Common.{◌≡◌, ℕ, ◌+◌, ◌<◌, ◌≤◌, ◌⊎◌, [], Option, None, Some, All, refl, sym, ap, ◌∙◌, subst, arith, zero-add}
 use Rattle.std.proofs.lemmas.List.Elements.{All-head}
 use Rattle.facet_base.specs.declared.scalar_type.ScalarType.{ScalarType}
 use Rattle.facet_leaf.specs.LeafModel.{LeafModel}
+use Rattle.facet_block.specs.declared.block.Block.{Block}
 use Rattle.facet_block.specs.declared.block.Item.{Leaf}
 use Rattle.facet_block.specs.Block.{item_at, leaf_of, size_of, empty_block}
 use Rattle.facet_block.specs.Span.{IsBeside}
@@ -12,7 +13,7 @@ use Rattle.facet_shapes.specs.declared.value_kind.ValueKind.{ValueKind}
 use Rattle.facet_shapes.specs.declared.value_kind.ValueKind.TheVariants as kind
 use Rattle.facet_values.specs.Place.{Place, leaf_block, start_of}
 use Rattle.facet_values.specs.Seen.{a_leaf, seen_leaf, seen}
-use Rattle.facet_values.specs.Reading.{own_span, spans_of_kind, IsAlone, IsOfKind, IsWhole, Reads}
+use Rattle.facet_values.specs.Reading.{own_span, spans_of_kind, IsAlone, IsOfKind, IsWhole, Reads, IsReadable}
 use Rattle.facet_values.specs.Value.{leaf}
 
 module _ {L : Type 0} (x : L) where
@@ -52,6 +53,9 @@ module _ {L : Type 0} (m : LeafModel L) (registry : Registry) where
     pub reads_leaf : Reads m registry (start_of s (leaf_block (size_at registry s) x)) (leaf x)
     unfolding seen
     reads_leaf = (whole, rw (of, first_item x (size_at registry s) some) refl)
+
+    pub leaf_readable : (block : Block L) → block ≡ leaf_block (size_at registry s) x → IsReadable m registry (start_of s block)
+    leaf_readable block is = subst (λ b. IsReadable m registry (start_of s b)) (sym is) (record { value = leaf x; reads = reads_leaf })
 
   kind_of_item : (of : ValueKind) (found : Option L) (k : ScalarType) (x : L) → of ≡ kind.Leaf k → found ≡ Some x → IsOfKind m of found → m.kind x ≡ k
   kind_of_item of found k x same here is = rw (same, here) at is
