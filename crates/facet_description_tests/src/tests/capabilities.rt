@@ -49,7 +49,7 @@ fn scalar_answers(alloc: Global) -> Result<([bool; 9], [bool; 5], [bool; 5]), Al
 }
 
 #[test]
-fn what_values_can_is_asked_of_lists_of_shapes(rt: HostRuntime) -> Result<(), Fail> {
+fn what_values_can_do_is_asked_of_a_shape_and_of_lists(rt: HostRuntime) -> Result<(), Fail> {
     let offered = [false, true, false, true, false, true, false, false, true];
     let expected = (offered, [true; 5], [true; 5]);
     assert!(rt; scalar_answers(rt.alloc())? == expected);

@@ -35,43 +35,43 @@ fn compared(first: &Shape, second: &Shape) -> Comparison {
     )
 }
 
-fn built_compared(first: ShapeBuilder, second: ShapeBuilder) -> Option<Comparison> {
-    let Ok(first) = first.build() else {
-        return None;
-    };
-    match second.build() {
-        Ok(second) => Some(compared(&first, &second)),
-        Err(_) => None,
-    }
-}
-
-// How two shapes of different identifiers compare that are in no registry, so that both have the id 0.
-fn unregistered(alloc: Global) -> Result<Option<Comparison>, AllocError> {
-    let (one, other) = (Text::new(alloc, "A")?, Text::new(alloc, "B")?);
-    let first = Shape::builder_for_unsized(alloc, one);
-    Ok(built_compared(first, Shape::builder_for_unsized(alloc, other)))
-}
-
-fn registered_compared(shapes: &Shapes<Scalar>, first: u32, second: u32) -> Option<Comparison> {
+// How the shapes of two ids in a registry compare.
+fn compared_at(shapes: &Shapes<Scalar>, first: u32, second: u32) -> Option<Comparison> {
     let first = shapes.get(ShapeId(first))?;
     let second = shapes.get(ShapeId(second))?;
     Some(compared(first, second))
 }
 
-// How two shapes compare that are alike but for their ids in a registry.
-fn registered(alloc: Global) -> Result<Option<Comparison>, AllocError> {
+// How the first shape of a registry compares to one that is in none.
+fn compared_to_built(shapes: &Shapes<Scalar>, builder: ShapeBuilder) -> Option<Comparison> {
+    let first = shapes.get(ShapeId(0))?;
+    match builder.build() {
+        Ok(second) => Some(compared(first, &second)),
+        Err(_) => None,
+    }
+}
+
+// How two shapes compare that are alike but for their ids.
+fn of_two_ids(alloc: Global) -> Result<Option<Comparison>, AllocError> {
     let (one, other) = (Text::new(alloc, "A")?, Text::new(alloc, "A")?);
     let mut shapes: Shapes<Scalar> = Shapes::prelude(alloc)?;
     push(&mut shapes, Shape::builder_for_unsized(alloc, one));
     push(&mut shapes, Shape::builder_for_unsized(alloc, other));
-    Ok(registered_compared(&shapes, 16, 17))
+    Ok(compared_at(&shapes, 16, 17))
+}
+
+// How the shape of `()` compares to another one: a shape that is in no registry has the id 0, too.
+fn of_one_id(alloc: Global) -> Result<Option<Comparison>, AllocError> {
+    let identifier = Text::new(alloc, "A")?;
+    let shapes: Shapes<Scalar> = Shapes::prelude(alloc)?;
+    Ok(compared_to_built(&shapes, Shape::builder_for_unsized(alloc, identifier)))
 }
 
 #[test]
 fn shapes_are_told_apart_by_their_ids_alone(rt: HostRuntime) -> Result<(), Fail> {
-    let one = (true, true, true, (false, Ordering::Equal));
-    assert!(rt; unregistered(rt.alloc())? == Some(one));
-    let two = (false, false, false, (true, Ordering::Less));
-    assert!(rt; registered(rt.alloc())? == Some(two));
+    let equal = (true, true, true, (false, Ordering::Equal));
+    assert!(rt; of_one_id(rt.alloc())? == Some(equal));
+    let below = (false, false, false, (true, Ordering::Less));
+    assert!(rt; of_two_ids(rt.alloc())? == Some(below));
     Ok(())
 }

@@ -4,7 +4,7 @@ use facet_shape::{AllocateError, Shape};
 use std::alloc::{AllocError, Global};
 use std::test::Fail;
 
-// Why a shape gave no block, or no shape was built.
+// Why a shape allocated no block, or no shape was built.
 #[derive(Clone, Copy, PartialEq, Eq, Debug)]
 enum Refusal {
     Unbuilt,
@@ -12,8 +12,8 @@ enum Refusal {
     NoMemory,
 }
 
-// The size of the block that a shape gives.
-fn size_given(alloc: Global, shape: &Shape) -> Result<usize, Refusal> {
+// The size of the block that a shape allocates.
+fn allocated_size(alloc: Global, shape: &Shape) -> Result<usize, Refusal> {
     let given: Result<Block<u32>, AllocateError> = shape.allocate(alloc);
     match given {
         Ok(block) => Ok(block.size()),
@@ -22,14 +22,14 @@ fn size_given(alloc: Global, shape: &Shape) -> Result<usize, Refusal> {
     }
 }
 
-// Whether a shape takes an empty block back.
-fn is_taken(shape: &Shape, block: Block<u32>) -> bool {
+// Whether a shape deallocates an empty block.
+fn is_deallocated(shape: &Shape, block: Block<u32>) -> bool {
     let size = block.size();
     block.is_empty_in(0, size) && shape.deallocate(block).is_ok()
 }
 
-// The size of the block that a shape of this layout gives, and whether it takes a block back.
-fn given_and_taken(
+// The size of the block that a shape of this layout allocates, and whether it deallocates one.
+fn of_layout(
     alloc: Global,
     layout: ShapeLayout,
 ) -> Result<(Result<usize, Refusal>, bool), AllocError> {
@@ -37,18 +37,20 @@ fn given_and_taken(
     let block = Block::new(alloc, 24)?;
     let builder = Shape::builder_for_unsized(alloc, identifier);
     match builder.layout(layout).build() {
-        Ok(shape) => Ok((size_given(alloc, &shape), is_taken(&shape, block))),
+        Ok(shape) => Ok((allocated_size(alloc, &shape), is_deallocated(&shape, block))),
         Err(_) => Ok((Err(Refusal::Unbuilt), false)),
     }
 }
 
 #[test]
-fn blocks_are_given_and_taken_for_sized_shapes_alone(rt: HostRuntime) -> Result<(), Fail> {
+fn a_block_is_allocated_and_deallocated_for_a_sized_shape_alone(
+    rt: HostRuntime,
+) -> Result<(), Fail> {
     for (size, align) in [(0, 1), (24, 8)] {
         let layout = ShapeLayout::Sized(Layout { size, align });
-        assert!(rt; given_and_taken(rt.alloc(), layout)? == (Ok(size), true));
+        assert!(rt; of_layout(rt.alloc(), layout)? == (Ok(size), true));
     }
     let refused = (Err(Refusal::Unsized), false);
-    assert!(rt; given_and_taken(rt.alloc(), ShapeLayout::Unsized)? == refused);
+    assert!(rt; of_layout(rt.alloc(), ShapeLayout::Unsized)? == refused);
     Ok(())
 }
