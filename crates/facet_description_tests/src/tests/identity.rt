@@ -1,7 +1,7 @@
 use super::push;
 use facet_base::{ShapeId, Text};
 use facet_leaf::Scalar;
-use facet_shape::{Shape, ShapeBuilder};
+use facet_shape::Shape;
 use facet_shapes::Shapes;
 use std::alloc::{AllocError, Global};
 use std::cmp::Ordering;
@@ -35,36 +35,32 @@ fn compared(first: &Shape, second: &Shape) -> Comparison {
     )
 }
 
-// How the shapes of two ids in a registry compare.
-fn compared_at(shapes: &Shapes<Scalar>, first: u32, second: u32) -> Option<Comparison> {
-    let first = shapes.get(ShapeId(first))?;
-    let second = shapes.get(ShapeId(second))?;
-    Some(compared(first, second))
+fn compared_where_there(first: Option<&Shape>, second: Option<&Shape>) -> Option<Comparison> {
+    Some(compared(first?, second?))
 }
 
-// How the first shape of a registry compares to one that is in none.
-fn compared_to_built(shapes: &Shapes<Scalar>, builder: ShapeBuilder) -> Option<Comparison> {
-    let first = shapes.get(ShapeId(0))?;
-    match builder.build() {
-        Ok(second) => Some(compared(first, &second)),
-        Err(_) => None,
-    }
+// Adds a shape of this identifier and nothing else to a registry.
+fn add(shapes: &mut Shapes<Scalar>, alloc: Global, identifier: &str) -> Result<(), AllocError> {
+    let identifier = Text::new(alloc, identifier)?;
+    push(shapes, Shape::builder_for_unsized(alloc, identifier));
+    Ok(())
 }
 
 // How two shapes compare that are alike but for their ids.
 fn of_two_ids(alloc: Global) -> Result<Option<Comparison>, AllocError> {
-    let (one, other) = (Text::new(alloc, "A")?, Text::new(alloc, "A")?);
-    let mut shapes: Shapes<Scalar> = Shapes::prelude(alloc)?;
-    push(&mut shapes, Shape::builder_for_unsized(alloc, one));
-    push(&mut shapes, Shape::builder_for_unsized(alloc, other));
-    Ok(compared_at(&shapes, 16, 17))
+    let mut shapes = Shapes::prelude(alloc)?;
+    add(&mut shapes, alloc, "A")?;
+    add(&mut shapes, alloc, "A")?;
+    Ok(compared_where_there(shapes.get(ShapeId(16)), shapes.get(ShapeId(17))))
 }
 
-// How the shape of `()` compares to another one: a shape that is in no registry has the id 0, too.
+// How two shapes of different identifiers compare that have one id, in two registries.
 fn of_one_id(alloc: Global) -> Result<Option<Comparison>, AllocError> {
-    let identifier = Text::new(alloc, "A")?;
-    let shapes: Shapes<Scalar> = Shapes::prelude(alloc)?;
-    Ok(compared_to_built(&shapes, Shape::builder_for_unsized(alloc, identifier)))
+    let mut shapes = Shapes::prelude(alloc)?;
+    add(&mut shapes, alloc, "A")?;
+    let mut others = Shapes::prelude(alloc)?;
+    add(&mut others, alloc, "B")?;
+    Ok(compared_where_there(shapes.get(ShapeId(16)), others.get(ShapeId(16))))
 }
 
 #[test]
