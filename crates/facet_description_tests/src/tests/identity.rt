@@ -22,17 +22,18 @@ fn order_of<T: Ord>(first: &T, second: &T) -> Ordering {
     first.cmp(second)
 }
 
-// Whether two shapes are one, are equal and hash alike, whether the first is below the second, and how they are
-// ordered.
-type Comparison = (bool, bool, bool, (bool, Ordering));
+// Whether two shapes are one by each of two questions, are equal and hash alike; whether the first is below the
+// second; and how they are ordered.
+type Comparison = ([bool; 4], bool, Ordering);
 
 fn compared(first: &Shape, second: &Shape) -> Comparison {
-    (
-        first.is_shape(second) && first.assert_shape(second).is_ok(),
+    let alike = [
+        first.is_shape(second),
+        first.assert_shape(second).is_ok(),
         first == second,
         hash_of(first) == hash_of(second),
-        (is_below(first, second), order_of(first, second)),
-    )
+    ];
+    (alike, is_below(first, second), order_of(first, second))
 }
 
 fn compared_where_there(first: Option<&Shape>, second: Option<&Shape>) -> Option<Comparison> {
@@ -65,9 +66,9 @@ fn of_one_id(alloc: Global) -> Result<Option<Comparison>, AllocError> {
 
 #[test]
 fn shapes_are_told_apart_by_their_ids_alone(rt: HostRuntime) -> Result<(), Fail> {
-    let equal = (true, true, true, (false, Ordering::Equal));
+    let equal = ([true; 4], false, Ordering::Equal);
     assert!(rt; of_one_id(rt.alloc())? == Some(equal));
-    let below = (false, false, false, (true, Ordering::Less));
+    let below = ([false; 4], true, Ordering::Less);
     assert!(rt; of_two_ids(rt.alloc())? == Some(below));
     Ok(())
 }

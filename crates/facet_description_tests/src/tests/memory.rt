@@ -4,7 +4,7 @@ use facet_shape::{AllocateError, Shape};
 use std::alloc::{AllocError, Global};
 use std::test::Fail;
 
-// Why a shape allocated no block, or no shape was built.
+// Why there is no block, or no shape.
 #[derive(Clone, Copy, PartialEq, Eq, Debug)]
 enum Refusal {
     Unbuilt,
@@ -14,22 +14,22 @@ enum Refusal {
 
 // The size of the block that a shape allocates.
 fn allocated_size(alloc: Global, shape: &Shape) -> Result<usize, Refusal> {
-    let given: Result<Block<u32>, AllocateError> = shape.allocate(alloc);
-    match given {
+    let allocated: Result<Block<u32>, AllocateError> = shape.allocate(alloc);
+    match allocated {
         Ok(block) => Ok(block.size()),
         Err(AllocateError::Unsized) => Err(Refusal::Unsized),
         Err(AllocateError::NoMemory) => Err(Refusal::NoMemory),
     }
 }
 
-// Whether a shape deallocates an empty block.
-fn is_deallocated(shape: &Shape, block: Block<u32>) -> bool {
+// Whether a shape frees an empty block.
+fn is_freed(shape: &Shape, block: Block<u32>) -> bool {
     let size = block.size();
     block.is_empty_in(0, size) && shape.deallocate(block).is_ok()
 }
 
-// The size of the block that a shape of this layout allocates, and whether it deallocates one.
-fn of_layout(
+// The size of the block that a shape of this layout allocates, and whether it frees a block.
+fn allocated_and_freed(
     alloc: Global,
     layout: ShapeLayout,
 ) -> Result<(Result<usize, Refusal>, bool), AllocError> {
@@ -37,20 +37,18 @@ fn of_layout(
     let block = Block::new(alloc, 24)?;
     let builder = Shape::builder_for_unsized(alloc, identifier);
     match builder.layout(layout).build() {
-        Ok(shape) => Ok((allocated_size(alloc, &shape), is_deallocated(&shape, block))),
+        Ok(shape) => Ok((allocated_size(alloc, &shape), is_freed(&shape, block))),
         Err(_) => Ok((Err(Refusal::Unbuilt), false)),
     }
 }
 
 #[test]
-fn a_block_is_allocated_and_deallocated_for_a_sized_shape_alone(
-    rt: HostRuntime,
-) -> Result<(), Fail> {
+fn blocks_are_allocated_and_freed_for_sized_shapes_alone(rt: HostRuntime) -> Result<(), Fail> {
     for (size, align) in [(0, 1), (24, 8)] {
         let layout = ShapeLayout::Sized(Layout { size, align });
-        assert!(rt; of_layout(rt.alloc(), layout)? == (Ok(size), true));
+        assert!(rt; allocated_and_freed(rt.alloc(), layout)? == (Ok(size), true));
     }
     let refused = (Err(Refusal::Unsized), false);
-    assert!(rt; of_layout(rt.alloc(), ShapeLayout::Unsized)? == refused);
+    assert!(rt; allocated_and_freed(rt.alloc(), ShapeLayout::Unsized)? == refused);
     Ok(())
 }
