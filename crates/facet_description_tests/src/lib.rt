@@ -1,4 +1,4 @@
-//! Tests of descriptions, definitions, shapes and the registry: what no contract says, and one call of each that succeeds.
+//! Tests of descriptions, definitions, shapes and the registry, by what their crates export.
 #![tactic(auto)]
 
 #[cfg(test)]

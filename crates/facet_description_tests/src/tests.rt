@@ -72,16 +72,16 @@ fn lists(alloc: Global) -> Result<(Many<Attr>, Many<Text>), AllocError> {
     Ok((attributes, doc))
 }
 
-// No answer holds but those at these indices; at an index of 9 there is none.
+// False everywhere but at these indices, of which 9 is none.
 fn true_at(first: usize, second: usize) -> [bool; 9] {
-    let mut answers = [false; 9];
+    let mut expected = [false; 9];
     if first < 9 {
-        answers[first] = true;
+        expected[first] = true;
     }
     if second < 9 {
-        answers[second] = true;
+        expected[second] = true;
     }
-    answers
+    expected
 }
 
 // The shape of a type of eight bytes, with nothing else set.

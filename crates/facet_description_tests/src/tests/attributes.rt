@@ -4,8 +4,8 @@ use facet_desc::{Attr, AttrData, AttrKind, Field, Variant};
 use std::alloc::{AllocError, Global};
 use std::test::Fail;
 
-// What a field answers by its attributes: the constants below are the indices.
-fn field_answers(field: &Field) -> [bool; 9] {
+// What is asked of a field by its attributes: the constants below are the indices.
+fn field_questions(field: &Field) -> [bool; 9] {
     [
         field.is_text(),
         field.is_elements(),
@@ -19,8 +19,8 @@ fn field_answers(field: &Field) -> [bool; 9] {
     ]
 }
 
-// What a variant answers by its attributes.
-fn variant_answers(variant: &Variant) -> [bool; 3] {
+// What is asked of a variant by its attributes.
+fn variant_questions(variant: &Variant) -> [bool; 3] {
     [
         variant.is_text(),
         variant.is_custom_element(),
@@ -28,25 +28,29 @@ fn variant_answers(variant: &Variant) -> [bool; 3] {
     ]
 }
 
-// What a field answers that has one attribute.
-fn answers_in_field(alloc: Global, ns: Option<&str>, key: &str) -> Result<[bool; 9], AllocError> {
+// The same of a field that has one attribute.
+fn questions_in_field(alloc: Global, ns: Option<&str>, key: &str) -> Result<[bool; 9], AllocError> {
     let attributes = one_attribute(alloc, ns, key)?;
     match field_with(alloc, attributes) {
-        Ok(field) => Ok(field_answers(&field)),
+        Ok(field) => Ok(field_questions(&field)),
         Err(error) => Err(error),
     }
 }
 
-// What a variant answers that has one attribute.
-fn answers_in_variant(alloc: Global, ns: Option<&str>, key: &str) -> Result<[bool; 3], AllocError> {
+// The same of a variant that has one attribute.
+fn questions_in_variant(
+    alloc: Global,
+    ns: Option<&str>,
+    key: &str,
+) -> Result<[bool; 3], AllocError> {
     let attributes = one_attribute(alloc, ns, key)?;
     match variant_with(alloc, attributes) {
-        Ok(variant) => Ok(variant_answers(&variant)),
+        Ok(variant) => Ok(variant_questions(&variant)),
         Err(error) => Err(error),
     }
 }
 
-// Indices of what a field answers, and one past them.
+// Indices of the questions about a field, and one past them.
 const TEXT: usize = 0;
 
 const ELEMENTS: usize = 1;
@@ -67,7 +71,7 @@ const VARIANT_CONTENT: usize = 8;
 
 const NONE: usize = 9;
 
-// Indices of what a variant answers, and one past them.
+// Indices of the questions about a variant, and one past them.
 const VARIANT_TEXT: usize = 0;
 
 const CUSTOM_ELEMENT: usize = 1;
@@ -104,9 +108,9 @@ fn rows() -> [(Option<&'static str>, &'static str, usize, usize, usize); 19] {
 #[test]
 fn fields_and_variants_are_classed_by_their_attribute(rt: HostRuntime) -> Result<(), Fail> {
     for (ns, key, first, second, of_variant) in rows() {
-        let in_field = answers_in_field(rt.alloc(), ns, key)?;
+        let in_field = questions_in_field(rt.alloc(), ns, key)?;
         assert!(rt; in_field == true_at(first, second));
-        let in_variant = answers_in_variant(rt.alloc(), ns, key)?;
+        let in_variant = questions_in_variant(rt.alloc(), ns, key)?;
         let expected = [of_variant == 0, of_variant == 1, of_variant == 2];
         assert!(rt; in_variant == expected);
     }

@@ -41,7 +41,7 @@ fn questions(shapes: &Shapes<Scalar>, ids: &[ShapeId]) -> [bool; 5] {
 }
 
 // What is offered by the scalars, and the five questions of none of them and of `String` and `u32`.
-fn scalar_answers(alloc: Global) -> Result<([bool; 9], [bool; 5], [bool; 5]), AllocError> {
+fn scalar_questions(alloc: Global) -> Result<([bool; 9], [bool; 5], [bool; 5]), AllocError> {
     let shapes: Shapes<Scalar> = Shapes::prelude(alloc)?;
     let of_none = questions(&shapes, [].as_slice());
     let of_two = questions(&shapes, [ShapeId(3), ShapeId(6)].as_slice());
@@ -49,10 +49,10 @@ fn scalar_answers(alloc: Global) -> Result<([bool; 9], [bool; 5], [bool; 5]), Al
 }
 
 #[test]
-fn what_values_can_is_asked_of_lists_of_shapes(rt: HostRuntime) -> Result<(), Fail> {
+fn what_values_can_do_is_asked_of_a_shape_and_of_lists(rt: HostRuntime) -> Result<(), Fail> {
     let offered = [false, true, false, true, false, true, false, false, true];
     let expected = (offered, [true; 5], [true; 5]);
-    assert!(rt; scalar_answers(rt.alloc())? == expected);
+    assert!(rt; scalar_questions(rt.alloc())? == expected);
     Ok(())
 }
 
@@ -77,7 +77,7 @@ fn able_draft(alloc: Global, identifier: Text, index: usize) -> ShapeBuilder {
 }
 
 // The five questions of `u32` and that draft.
-fn draft_answers(alloc: Global, index: usize) -> Result<Option<[bool; 5]>, AllocError> {
+fn draft_questions(alloc: Global, index: usize) -> Result<Option<[bool; 5]>, AllocError> {
     let identifier = Text::new(alloc, "T")?;
     let mut shapes: Shapes<Scalar> = Shapes::prelude(alloc)?;
     match push(&mut shapes, able_draft(alloc, identifier, index)) {
@@ -91,7 +91,7 @@ fn each_question_over_a_list_reads_its_own_member(rt: HostRuntime) -> Result<(),
     for index in 0..5 {
         let mut expected = [false; 5];
         expected[index] = true;
-        assert!(rt; draft_answers(rt.alloc(), index)? == Some(expected));
+        assert!(rt; draft_questions(rt.alloc(), index)? == Some(expected));
     }
     Ok(())
 }

@@ -43,11 +43,11 @@ fn built(builder: ShapeBuilder) -> Option<(bool, u128)> {
 }
 
 // What is built of a type with a type parameter, this declaration id and no module path; 0 is no id.
-fn without_path(alloc: Global, id: u128) -> Result<Option<(bool, u128)>, AllocError> {
+fn without_path(alloc: Global, decl_id: u128) -> Result<Option<(bool, u128)>, AllocError> {
     let identifier = Text::new(alloc, "Grid")?;
     let params = type_param(alloc)?;
     let builder = begin(alloc, identifier).type_params(params);
-    Ok(built(builder.decl_id(DeclId(id))))
+    Ok(built(builder.decl_id(DeclId(decl_id))))
 }
 
 // What is built of a type with a module path and no parameters.

@@ -122,8 +122,8 @@ fn case_of(def: &Def) -> usize {
 }
 
 // The case of a definition that came back in place of a record.
-fn case_back<T: Drop>(answer: Result<T, Def>) -> Option<usize> {
-    match answer {
+fn case_back<T: Drop>(returned: Result<T, Def>) -> Option<usize> {
+    match returned {
         Ok(_) => None,
         Err(def) => Some(case_of(&def)),
     }
@@ -227,7 +227,7 @@ fn a_pointer_is_made_of_its_pointee_by_its_operation_or_its_name(rt: HostRuntime
     }
 }
 
-// What a list answers of its operations, of which the one at an index alone is offered.
+// What a list offers that has the operation at an index alone.
 fn offered(index: usize) -> [bool; 9] {
     let type_ops = ListTypeOps {
         iter_vtable: ITERATOR,
@@ -240,11 +240,11 @@ fn offered(index: usize) -> [bool; 9] {
         capacity: index == 6,
         from_raw_parts: index == 7,
     };
-    answers(&ListDef::with_type_ops(LIST, type_ops, ShapeId(3)))
+    operations(&ListDef::with_type_ops(LIST, type_ops, ShapeId(3)))
 }
 
 // Its eight operations in order, and then whether its iterator goes backwards.
-fn answers(list: &ListDef) -> [bool; 9] {
+fn operations(list: &ListDef) -> [bool; 9] {
     [
         list.init_in_place_with_capacity(),
         list.push(),
@@ -273,5 +273,5 @@ fn a_list_offers_the_operations_that_it_was_given(rt: HostRuntime) {
         expected[8] = true;
         assert!(rt; offered(index) == expected);
     }
-    assert!(rt; answers(&ListDef::new(LIST, ShapeId(3))) == [false; 9]);
+    assert!(rt; operations(&ListDef::new(LIST, ShapeId(3))) == [false; 9]);
 }

@@ -111,8 +111,8 @@ fn a_field_has_what_was_set_and_nothing_else(rt: HostRuntime) -> Result<(), Fail
     Ok(())
 }
 
-// What a field answers by its flags, and in the last three places by its other members.
-fn flag_answers(field: &Field) -> [bool; 9] {
+// What is asked of a field by its flags, and at the last three indices by its other members.
+fn flag_questions(field: &Field) -> [bool; 9] {
     [
         field.is_flattened(),
         field.is_sensitive(),
@@ -127,10 +127,10 @@ fn flag_answers(field: &Field) -> [bool; 9] {
 }
 
 // The same of a field of which only the flags are set.
-fn answers_to(alloc: Global, flags: FieldFlags) -> Result<[bool; 9], AllocError> {
+fn questions_by(alloc: Global, flags: FieldFlags) -> Result<[bool; 9], AllocError> {
     let name = Text::new(alloc, "a")?;
     let builder = FieldBuilder::new(alloc, name, ShapeId(6), 8);
-    Ok(flag_answers(&builder.flags(flags).build()))
+    Ok(flag_questions(&builder.flags(flags).build()))
 }
 
 // Flags, and the indices of what alone holds of a field that has them; at an index of 9 there is none.
@@ -150,7 +150,7 @@ fn flag_rows() -> [(FieldFlags, usize, usize); 8] {
 #[test]
 fn a_field_reads_its_flags(rt: HostRuntime) -> Result<(), Fail> {
     for (flags, first, second) in flag_rows() {
-        assert!(rt; answers_to(rt.alloc(), flags)? == true_at(first, second));
+        assert!(rt; questions_by(rt.alloc(), flags)? == true_at(first, second));
     }
     Ok(())
 }

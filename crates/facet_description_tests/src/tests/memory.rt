@@ -4,7 +4,7 @@ use facet_shape::{AllocateError, Shape};
 use std::alloc::{AllocError, Global};
 use std::test::Fail;
 
-// Why a shape gave no block, or no shape was built.
+// Why there is no block, or no shape.
 #[derive(Clone, Copy, PartialEq, Eq, Debug)]
 enum Refusal {
     Unbuilt,
@@ -13,17 +13,17 @@ enum Refusal {
 }
 
 // The size of the block that a shape allocates.
-fn size_given(alloc: Global, shape: &Shape) -> Result<usize, Refusal> {
-    let given: Result<Block<u32>, AllocateError> = shape.allocate(alloc);
-    match given {
+fn allocated_size(alloc: Global, shape: &Shape) -> Result<usize, Refusal> {
+    let allocated: Result<Block<u32>, AllocateError> = shape.allocate(alloc);
+    match allocated {
         Ok(block) => Ok(block.size()),
         Err(AllocateError::Unsized) => Err(Refusal::Unsized),
         Err(AllocateError::NoMemory) => Err(Refusal::NoMemory),
     }
 }
 
-// Whether a shape takes an empty block back.
-fn is_taken(shape: &Shape, block: Block<u32>) -> bool {
+// Whether a shape frees an empty block.
+fn is_freed(shape: &Shape, block: Block<u32>) -> bool {
     let size = block.size();
     block.is_empty_in(0, size) && shape.deallocate(block).is_ok()
 }
@@ -37,7 +37,7 @@ fn allocated_and_freed(
     let block = Block::new(alloc, 24)?;
     let builder = Shape::builder_for_unsized(alloc, identifier);
     match builder.layout(layout).build() {
-        Ok(shape) => Ok((size_given(alloc, &shape), is_taken(&shape, block))),
+        Ok(shape) => Ok((allocated_size(alloc, &shape), is_freed(&shape, block))),
         Err(_) => Ok((Err(Refusal::Unbuilt), false)),
     }
 }

@@ -38,10 +38,10 @@ fn slice_pointer() -> Def {
     })
 }
 
-// What the shape answers, in this order: the attributes deny_unknown_fields and default, transparent, untagged,
+// What the shape returns, in this order: the attributes deny_unknown_fields and default, transparent, untagged,
 // numeric, a container of metadata, any values, borrowed or owned, a proxy, an adapter, a truth value, made by a
 // slice builder.
-fn answers(shape: &Shape) -> [bool; 12] {
+fn questions(shape: &Shape) -> [bool; 12] {
     [
         shape.has_deny_unknown_fields_attr(),
         shape.has_default_attr(),
@@ -58,24 +58,24 @@ fn answers(shape: &Shape) -> [bool; 12] {
     ]
 }
 
-fn built_answers(builder: ShapeBuilder) -> Option<[bool; 12]> {
+fn built_questions(builder: ShapeBuilder) -> Option<[bool; 12]> {
     match builder.build() {
-        Ok(shape) => Some(answers(&shape)),
+        Ok(shape) => Some(questions(&shape)),
         Err(_) => None,
     }
 }
 
-// What a shape with an attribute of this key answers.
+// The same of a shape with an attribute of this key.
 fn with_attribute(alloc: Global, key: &str) -> Result<Option<[bool; 12]>, AllocError> {
     let identifier = Text::new(alloc, "Point")?;
     let attributes = one_attribute(alloc, None, key)?;
-    Ok(built_answers(begin(alloc, identifier).attributes(attributes)))
+    Ok(built_questions(begin(alloc, identifier).attributes(attributes)))
 }
 
-// What a shape with this flag answers.
+// The same of a shape with this flag.
 fn with_flag(alloc: Global, flag: ShapeFlags) -> Result<Option<[bool; 12]>, AllocError> {
     let identifier = Text::new(alloc, "Point")?;
-    Ok(built_answers(begin(alloc, identifier).flags(flag)))
+    Ok(built_questions(begin(alloc, identifier).flags(flag)))
 }
 
 // The member that the question at an index from 6 to 11 reads, beside attributes and flags. Other indexes set none.
@@ -97,20 +97,20 @@ fn with_one_member(alloc: Global, builder: ShapeBuilder, index: usize) -> ShapeB
     }
 }
 
-// What a shape with that member answers.
+// The same of a shape with that member.
 fn with_member(alloc: Global, index: usize) -> Result<Option<[bool; 12]>, AllocError> {
     let identifier = Text::new(alloc, "Point")?;
     let builder = with_one_member(alloc, begin(alloc, identifier), index);
-    Ok(built_answers(builder))
+    Ok(built_questions(builder))
 }
 
-// No answer but the one at this index.
+// False everywhere but at this index.
 fn only(index: usize) -> Option<[bool; 12]> {
-    let mut answers = [false; 12];
+    let mut expected = [false; 12];
     if index < 12 {
-        answers[index] = true;
+        expected[index] = true;
     }
-    Some(answers)
+    Some(expected)
 }
 
 #[test]
@@ -159,7 +159,7 @@ fn built_capabilities(builder: ShapeBuilder) -> Option<[bool; 9]> {
     }
 }
 
-// What values can do of which the characteristic at an index alone is noted.
+// What values can do that have the characteristic at an index alone.
 fn able(alloc: Global, index: usize) -> Result<Option<[bool; 9]>, AllocError> {
     let identifier = Text::new(alloc, "Point")?;
     let vtable = VTableDirect {

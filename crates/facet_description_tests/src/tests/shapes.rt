@@ -43,7 +43,7 @@ fn lengths(shape: &Shape) -> [Option<usize>; 3] {
     ]
 }
 
-// Its lengths, and its kind of scalar, which is asked in two ways.
+// Its lengths, and its kind of scalar, which is read in two ways.
 type Members = ([Option<usize>; 3], [Option<ScalarType>; 2]);
 
 fn members(builder: ShapeBuilder) -> Option<Members> {

@@ -132,7 +132,7 @@ fn a_discriminant_of_one_two_four_or_eight_bytes_is_unsigned(rt: HostRuntime) {
 }
 
 #[test]
-fn each_way_to_call_has_its_name(rt: HostRuntime) {
+fn each_calling_convention_has_its_name(rt: HostRuntime) {
     for (abi, expected) in [
         (FunctionAbi::C, Some("C")),
         (FunctionAbi::Rust, Some("Rust")),
