@@ -1,0 +1,5 @@
+pub mod Height
+pub mod Least
+pub mod Marks
+pub mod Passes
+pub mod Reach

@@ -1,0 +1,12 @@
+//! Searches over graphs whose nodes are numbers: which node reaches itself, how high each one is, what it costs with
+//! all that hangs on it, and whether a bad node is reached. Nothing recurses, and out of memory is the only refusal.
+//!
+//! The first nodes of a graph may be known from before: tables begin with their entries and are lengthened for the
+//! others. The edges of those first nodes are then not asked for.
+#![tactic(auto)]
+
+mod graph;
+mod heights;
+
+pub use graph::{Graph, Search};
+pub use heights::{MAX_HEIGHT, fill_heights, first_too_high};
