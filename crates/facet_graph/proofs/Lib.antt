@@ -1,1 +1,5 @@
+mod Frontier
 mod Tables
+mod Trails
+mod Ways
+mod Work

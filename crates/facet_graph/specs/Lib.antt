@@ -3,3 +3,4 @@ pub mod Least
 pub mod Marks
 pub mod Passes
 pub mod Reach
+pub mod Trail

@@ -7,6 +7,8 @@
 
 mod graph;
 mod heights;
+mod search;
 
 pub use graph::{Graph, Search};
 pub use heights::{MAX_HEIGHT, fill_heights, first_too_high};
+pub use search::reaches_bad;
