@@ -1,5 +1,7 @@
+mod Counting
 mod Frontier
 mod Tables
 mod Trails
 mod Ways
+mod Within
 mod Work

@@ -25,7 +25,7 @@ module _ (edges : ℕ → List ℕ) where
   low_positive s (suc h) low = omega arith
 
   -- entries above 0 are low ones
-  entry_low : (s e : ℕ) → IsHeightEntry edges s e → 0 < e → IsLow edges s e
+  pub entry_low : (s e : ℕ) → IsHeightEntry edges s e → 0 < e → IsLow edges s e
   entry_low s zero entry some = absurd (omega arith)
   entry_low s (suc e) entry some = entry
 

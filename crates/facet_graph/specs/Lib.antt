@@ -1,3 +1,4 @@
+pub mod Cost
 pub mod Height
 pub mod Least
 pub mod Marks

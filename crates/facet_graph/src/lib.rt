@@ -5,10 +5,12 @@
 //! others. The edges of those first nodes are then not asked for.
 #![tactic(auto)]
 
+mod costs;
 mod graph;
 mod heights;
 mod search;
 
-pub use graph::{Graph, Search};
+pub use costs::{MAX_COST, fill_costs, first_too_costly};
+pub use graph::{Graph, Search, WeightedEdge, WeightedGraph};
 pub use heights::{MAX_HEIGHT, fill_heights, first_too_high};
 pub use search::reaches_bad;
