@@ -2,6 +2,7 @@ mod Counting
 mod Frontier
 mod Tables
 mod Trails
+mod WayBack
 mod Ways
 mod Within
 mod Work

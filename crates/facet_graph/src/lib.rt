@@ -6,11 +6,13 @@
 #![tactic(auto)]
 
 mod costs;
+mod cycles;
 mod graph;
 mod heights;
 mod search;
 
 pub use costs::{MAX_COST, fill_costs, first_too_costly};
+pub use cycles::first_on_cycle;
 pub use graph::{Graph, Search, WeightedEdge, WeightedGraph};
 pub use heights::{MAX_HEIGHT, fill_heights, first_too_high};
 pub use search::reaches_bad;
