@@ -1,6 +1,8 @@
 mod Counting
 mod Frontier
+mod Spans
 mod Tables
+mod Tallies
 mod Trails
 mod WayBack
 mod Ways

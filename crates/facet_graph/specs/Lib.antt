@@ -4,4 +4,5 @@ pub mod Least
 pub mod Marks
 pub mod Passes
 pub mod Reach
+pub mod Repeats
 pub mod Trail

@@ -9,10 +9,14 @@ mod costs;
 mod cycles;
 mod graph;
 mod heights;
+mod overlap;
+mod repeats;
 mod search;
 
 pub use costs::{MAX_COST, fill_costs, first_too_costly};
 pub use cycles::first_on_cycle;
 pub use graph::{Graph, Search, WeightedEdge, WeightedGraph};
 pub use heights::{MAX_HEIGHT, fill_heights, first_too_high};
+pub use overlap::{Span, have_overlap};
+pub use repeats::has_repeat;
 pub use search::reaches_bad;
