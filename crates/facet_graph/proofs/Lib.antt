@@ -1,4 +1,6 @@
+pub mod Carried
 mod Counting
+pub mod Entries
 mod Frontier
 mod Spans
 mod Tables
