@@ -12,6 +12,8 @@ mod heights;
 mod overlap;
 mod repeats;
 mod search;
+#[cfg(test)]
+mod tests;
 
 pub use costs::{MAX_COST, fill_costs, first_too_costly};
 pub use cycles::first_on_cycle;
