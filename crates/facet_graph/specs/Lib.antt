@@ -1,5 +1,6 @@
 pub mod Cost
 pub mod Height
+pub mod Labels
 pub mod Least
 pub mod Marks
 pub mod Passes

@@ -9,6 +9,7 @@ mod costs;
 mod cycles;
 mod graph;
 mod heights;
+mod labels;
 mod overlap;
 mod repeats;
 mod search;
