@@ -1,13 +1,12 @@
 -- The cost of a node, by the entries behind its edges.
-use Rattle.std.proofs.Common.{◌≡◌, ℕ, zero, suc, ◌+◌, ◌*◌, ◌<◌, ◌≤◌, ◌++◌, List, [], ◌∷◌, All, Contains, get_or, length, map, replicate, sum_by, refl, sym, ◌∙◌, ap, subst, inl, inr, arith}
-use Rattle.std.proofs.Math.Nat.{le-mul_of_pos_right}
+use Rattle.std.proofs.Common.{◌≡◌, ℕ, zero, suc, ◌+◌, ◌*◌, ◌<◌, ◌≤◌, List, [], ◌∷◌, All, get_or, length, sum_by, refl, sym, ◌∙◌, ap, subst, inl, inr, arith}
 use Rattle.std.proofs.lemmas.Bool.{cases_lt}
-use Rattle.std.proofs.lemmas.List.{get_or-map, get_or_append_left, length-map}
+use Rattle.std.proofs.lemmas.List.{get_or-map, length-map}
 use Rattle.std.proofs.lemmas.List.Elements.{All-head, All-tail, Contains-get_or}
 use Rattle.std.proofs.lemmas.List.Sums.{sum_by-cons}
 use Rattle.std.proofs.lemmas.Nat.{mul-le}
-use Rattle.facet_graph.specs.Cost.{AreCosts, IsCostEntry, capped, cost, unweighted}
-use Rattle.facet_graph.specs.Height.{AreHeights, IsHeightEntry, IsLow, IsTooHigh, IsWithin}
+use Rattle.facet_graph.specs.Cost.{capped, cost, unweighted}
+use Rattle.facet_graph.specs.Height.{AreHeights, IsLow, IsWithin}
 use Rattle.facet_graph.specs.Reach.{StaysWithin}
 use Rattle.facet_graph.specs.declared.graph.WeightedEdge.{WeightedEdge}
 use Rattle.facet_graph.proofs.Tables.{entry_low}

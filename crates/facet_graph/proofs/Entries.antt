@@ -1,6 +1,6 @@
 -- What one entry of a table says: the tests by which a caller decides.
 use Rattle.std.proofs.Common.{◌≡◌, ℕ, ◌<◌, ◌↔◌, List, arith}
-use Rattle.facet_graph.specs.Cost.{IsCostEntry, IsTooCostly, capped, cost, unweighted}
+use Rattle.facet_graph.specs.Cost.{IsCostEntry, IsTooCostly, unweighted}
 use Rattle.facet_graph.specs.Height.{IsHeightEntry, IsTooHigh, IsWithin}
 use Rattle.facet_graph.specs.declared.graph.WeightedEdge.{WeightedEdge}
 use Rattle.facet_graph.proofs.Tables.{zero_is_high}

@@ -1,5 +1,5 @@
 -- How many nodes stand one behind another: over more levels, behind an edge, and along a way.
-use Rattle.std.proofs.Common.{ℕ, zero, suc, ◌+◌, ◌-◌, ◌<◌, ◌≤◌, List, [], ◌∷◌, Contains, get_or, subst, arith}
+use Rattle.std.proofs.Common.{ℕ, zero, suc, ◌+◌, ◌-◌, ◌≤◌, List, [], ◌∷◌, Contains, get_or, subst, arith}
 use Rattle.facet_graph.specs.Height.{IsHeightEntry, IsWithin}
 use Rattle.facet_graph.specs.Reach.{Leads, ReachesItself}
 

@@ -1,5 +1,5 @@
 -- Numbers that are listed twice, and bytes that lie in two spans.
-use Rattle.std.specs.Prelude.{◌≡◌, ℕ, ℤ, ◌+◌, ◌<◌, Bool, ◌&&◌, List, nat_le, nat_lt}
+use Rattle.std.specs.Prelude.{ℕ, ℤ, ◌+◌, ◌<◌, Bool, ◌&&◌, List, nat_le, nat_lt}
 use Rattle.std.specs.List.{count_by}
 use Rattle.std.specs.Ordering.{int_eq}
 use Rattle.facet_graph.specs.declared.overlap.Span.{Span}

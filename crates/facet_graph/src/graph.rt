@@ -57,11 +57,7 @@ pub trait WeightedGraph {
         ensures { result ≡ own self.now node };
 
     /// Appends the edges that lead from a node.
-    fn push_weighted_edges(
-        &self,
-        node: usize,
-        to: &mut Vec<WeightedEdge>,
-    ) -> Result<(), AllocError>
+    fn push_weighted_edges(&self, node: usize, to: &mut Vec<WeightedEdge>) -> Result<(), AllocError>
         requires { node < count self.now }
         ensures { OnOk result (to.new.items ≡ to.old.items ++ weighted self.now node) };
 }

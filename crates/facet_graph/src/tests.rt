@@ -31,8 +31,14 @@ fn pairs() -> [((usize, usize), (usize, usize), bool); 7] {
 fn spans_share_a_byte_whatever_their_order(rt: HostRuntime) -> Result<(), Fail> {
     let alloc = rt.alloc();
     for (one, other, shared) in pairs() {
-        let one = Span { offset: one.0, size: one.1 };
-        let other = Span { offset: other.0, size: other.1 };
+        let one = Span {
+            offset: one.0,
+            size: one.1,
+        };
+        let other = Span {
+            offset: other.0,
+            size: other.1,
+        };
         assert_eq!(rt; have_overlap(&mut vec![in alloc; one, other]?)?, shared);
         assert_eq!(rt; have_overlap(&mut vec![in alloc; other, one]?)?, shared);
     }

@@ -26,8 +26,7 @@ pub struct Listed<'a> {
 /// Each of its edges leads to a node.
 pub fn edges_lead_to_nodes(graph: &Listed<'_>)
     ensures { StaysWithin (unweighted (λ s. map (λ (arrow : Arrow). arrow.edge) (filter (λ arrow. (arrow.from == s) && nat_lt arrow.edge.node graph.now.count) graph.now.arrows.now))) graph.now.count }
-{
-}
+{}
 
 impl<'a> WeightedGraph for Listed<'a> {
     ghost count = { λ graph. graph.count };

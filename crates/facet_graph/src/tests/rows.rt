@@ -1,5 +1,6 @@
-ghost use Rattle.std.specs.Prelude.{◌<◌};
+ghost use Rattle.std.specs.Prelude.{◌≡◌, ◌<◌, length};
 
+use crate::labels::{least_behind, rising_labels};
 use crate::tests::listed::{Arrow, Listed, edges_lead_to_nodes};
 use crate::{
     WeightedEdge, fill_costs, fill_heights, first_on_cycle, first_too_costly, first_too_high,
@@ -16,6 +17,22 @@ struct Findings {
     on_cycle: Option<usize>,
     too_high: Option<usize>,
     too_costly: Option<usize>,
+    searched: Vec<bool>,
+}
+
+// Whether the labels leave it open that a node is on a cycle, so that it is searched from.
+fn searched(alloc: Global, graph: &Listed<'_>, heights: &[u8]) -> Result<Vec<bool>, AllocError>
+    requires { length heights.now ≡ graph.now.count }
+{
+    edges_lead_to_nodes(graph);
+    let labels = rising_labels(alloc, graph, 0, heights)?;
+    let mut buffer = Vec::new(alloc);
+    let mut searched = Vec::new(alloc);
+    for node in 0..graph.count {
+        let least = least_behind(graph, node, heights, &labels, &mut buffer)?;
+        searched.push(heights[node] == 0 && least <= labels[node])?;
+    }
+    Ok(searched)
 }
 
 fn findings_of(alloc: Global, graph: &Listed<'_>) -> Result<Findings, AllocError> {
@@ -27,12 +44,14 @@ fn findings_of(alloc: Global, graph: &Listed<'_>) -> Result<Findings, AllocError
     let on_cycle = first_on_cycle(alloc, graph, 0, &heights)?;
     let too_high = first_too_high(graph, 0, &heights);
     let too_costly = first_too_costly(graph, 0, &heights, &costs);
+    let searched = searched(alloc, graph, &heights)?;
     Ok(Findings {
         heights,
         costs,
         on_cycle,
         too_high,
         too_costly,
+        searched,
     })
 }
 
@@ -42,66 +61,80 @@ struct Row {
     edges: &'static [(usize, usize, usize)],
     heights: [u8; 4],
     costs: [u32; 4],
-    on_cycle: Option<usize>,
+    on_cycle: [bool; 4],
     too_costly: Option<usize>,
 }
 
-fn rows() -> [Row; 8] {
+fn rows() -> [Row; 10] {
     [
         Row {
             edges: &[],
             heights: [1, 1, 1, 1],
             costs: [0, 1, 2, 3],
-            on_cycle: None,
+            on_cycle: [false, false, false, false],
             too_costly: None,
         },
         Row {
             edges: &[(0, 1, 1), (0, 2, 1), (1, 3, 1), (2, 3, 1)],
             heights: [3, 2, 2, 1],
             costs: [9, 4, 5, 3],
-            on_cycle: None,
+            on_cycle: [false, false, false, false],
             too_costly: None,
         },
         Row {
             edges: &[(3, 2, 1), (3, 2, 10), (2, 1, 0), (2, 0, 5)],
             heights: [1, 1, 2, 3],
             costs: [0, 1, 2, 25],
-            on_cycle: None,
+            on_cycle: [false, false, false, false],
             too_costly: None,
         },
         Row {
             edges: &[(2, 2, 0)],
             heights: [1, 1, 0, 1],
             costs: [0, 1, 0, 3],
-            on_cycle: Some(2),
+            on_cycle: [false, false, true, false],
             too_costly: None,
         },
         Row {
             edges: &[(0, 2, 1), (1, 3, 1), (2, 3, 1), (3, 1, 1)],
             heights: [0, 0, 0, 0],
             costs: [0, 0, 0, 0],
-            on_cycle: Some(1),
+            on_cycle: [false, true, false, true],
+            too_costly: None,
+        },
+        Row {
+            edges: &[(1, 0, 1), (0, 1, 1), (1, 2, 1), (2, 3, 1), (3, 3, 1)],
+            heights: [0, 0, 0, 0],
+            costs: [0, 0, 0, 0],
+            on_cycle: [true, true, false, true],
+            too_costly: None,
+        },
+        Row {
+            edges: &[(3, 2, 1), (2, 1, 1), (1, 3, 1), (1, 0, 1), (0, 0, 1)],
+            heights: [0, 0, 0, 0],
+            costs: [0, 0, 0, 0],
+            on_cycle: [true, true, true, true],
             too_costly: None,
         },
         Row {
             edges: &[(0, 1, 65_536), (2, 1, 65_534), (3, 1, 65_534)],
             heights: [2, 1, 2, 2],
             costs: [65_536, 1, 65_536, 65_537],
-            on_cycle: None,
+            on_cycle: [false, false, false, false],
             too_costly: Some(3),
         },
         Row {
             edges: &[(1, 0, usize::MAX), (2, 1, usize::MAX), (3, 2, usize::MAX)],
             heights: [1, 2, 3, 4],
             costs: [0, 1, 65_537, 65_537],
-            on_cycle: None,
+            on_cycle: [false, false, false, false],
             too_costly: Some(2),
         },
         Row {
             edges: &[(0, 1, 65_537), (2, 1, 1), (2, 3, 1), (3, 2, 1)],
             heights: [2, 1, 0, 0],
             costs: [65_537, 1, 0, 0],
-            on_cycle: Some(2),
+            on_cycle: [false, false, true, true],
             too_costly: Some(0),
         },
     ]
@@ -129,7 +162,8 @@ fn small_graphs_have_their_heights_costs_and_cycles(rt: HostRuntime) -> Result<(
         let found = findings_of(alloc, &graph)?;
         assert_eq!(rt; &found.heights[..], &row.heights[..]);
         assert_eq!(rt; &found.costs[..], &row.costs[..]);
-        assert_eq!(rt; found.on_cycle, row.on_cycle);
+        assert_eq!(rt; &found.searched[..], &row.on_cycle[..]);
+        assert_eq!(rt; found.on_cycle, row.on_cycle.iter().position(|on| *on));
         assert_eq!(rt; found.too_costly, row.too_costly);
     }
     Ok(())

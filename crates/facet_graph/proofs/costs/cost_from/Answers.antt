@@ -24,5 +24,5 @@ returns g c =
     let low = edges_low weighted own n c.requires.edges c.args.heights.now c.requires.heights c.args.s c.args.level c.requires.node c.requires.level in
     let right : All (λ e. get_or costs e.node 0 ≡ capped (cost weighted own 100 e.node)) edges = λ k d below. c.requires.below _ (low k d below).0 (low k d below).1 (low k d below).2 in
     let sum : c.capped_sum.result ≡ capped (own c.args.s + sum_by (λ e. e.weight * get_or costs e.node 0) edges) =
-        c.capped_sum.ensures ∙ ap (λ o. capped (o + sum_by (λ e. e.weight * get_or costs e.node 0) c.deref.result.now)) c.own_cost.ensures ∙ ap (λ xs. capped (own c.args.s + sum_by (λ (e : WeightedEdge). e.weight * get_or costs e.node 0) xs)) pushed in
+    c.capped_sum.ensures ∙ ap (λ o. capped (o + sum_by (λ e. e.weight * get_or costs e.node 0) c.deref.result.now)) c.own_cost.ensures ∙ ap (λ xs. capped (own c.args.s + sum_by (λ (e : WeightedEdge). e.weight * get_or costs e.node 0) xs)) pushed in
     λ within. sum ∙ cost_step weighted own 99 costs c.args.s within right

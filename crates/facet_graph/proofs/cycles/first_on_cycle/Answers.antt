@@ -1,4 +1,4 @@
-use Rattle.std.proofs.Common.{ℕ, ◌<◌, sym, ◌∙◌, below_more, arith}
+use Rattle.std.proofs.Common.{◌<◌, sym, ◌∙◌, below_more, arith}
 use Rattle.std.proofs.lemmas.Bool.{false≢true}
 use Rattle.facet_graph.specs.Reach.{ReachesItself}
 use Rattle.facet_graph.proofs.WayBack.{not_high_not_back}

@@ -1,7 +1,7 @@
-use Rattle.std.proofs.Common.{◌≡◌, ◌++◌, ◌<◌, All, Any, get_or, subst, sym, ◌∙◌, ap, arith}
+use Rattle.std.proofs.Common.{◌≡◌, ◌++◌, ◌<◌, All, get_or, subst, sym, ◌∙◌, ap, arith}
 use Rattle.std.proofs.lemmas.List.Elements.{Contains-get_or}
 use Rattle.facet_graph.proofs.Tables.{entry_low, low_within}
-use Rattle.facet_graph.proofs.WayBack.{from_edges, low_is_clean, rising_not_back, way_back}
+use Rattle.facet_graph.proofs.WayBack.{low_is_clean, rising_not_back}
 use Rattle.facet_graph.proofs.Within.{no_way_back}
 use Rattle.facet_graph.proofs.cycles.is_on_cycle.Goals as goal
 

@@ -1,4 +1,4 @@
-use Rattle.std.proofs.Common.{◌≡◌, ◌<◌, ◌+◌, ◌-◌, ℕ, get_or, subst, refl, arith}
+use Rattle.std.proofs.Common.{◌≡◌, ◌<◌, ◌+◌, ℕ, subst, refl, arith}
 use Rattle.std.specs.Bool.{OnFalse}
 use Rattle.facet_graph.specs.Passes.{AreFilled}
 use Rattle.facet_graph.proofs.Tables.{filled_none, filled_up, heights_done}

@@ -1,4 +1,4 @@
-use Rattle.std.proofs.Common.{◌<◌, get_or, arith}
+use Rattle.std.proofs.Common.{arith}
 use Rattle.std.proofs.lemmas.Grind.{common_steps}
 use Rattle.facet_graph.proofs.Tables.{low_positive}
 use Rattle.facet_graph.proofs.heights.fill_heights.Goals as goal

@@ -1,4 +1,4 @@
-use Rattle.std.proofs.Common.{◌<◌, ◌++◌, ℕ, All, Contains, get_or, subst, sym, ◌∙◌, ap, vec_len, arith}
+use Rattle.std.proofs.Common.{◌<◌, ◌++◌, All, get_or, subst, sym, ◌∙◌, ap, vec_len, arith}
 use Rattle.std.proofs.lemmas.List.Elements.{All-push, Contains-get_or}
 use Rattle.facet_graph.specs.Labels.{node_of}
 use Rattle.facet_graph.specs.declared.labels.Step.{Step}

@@ -1,4 +1,4 @@
-use Rattle.std.proofs.Common.{◌<◌, ◌++◌, ℕ, All, Contains, get_or, length, subst, sym, ◌∙◌, ap}
+use Rattle.std.proofs.Common.{◌<◌, ◌++◌, All, get_or, length, subst, sym, ◌∙◌, ap}
 use Rattle.std.proofs.lemmas.List.Elements.{Contains-get_or}
 use Rattle.facet_graph.proofs.labels.least_behind.Goals as goal
 

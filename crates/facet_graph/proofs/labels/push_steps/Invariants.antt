@@ -1,4 +1,4 @@
-use Rattle.std.proofs.Common.{ℕ, ◌<◌, All, take}
+use Rattle.std.proofs.Common.{ℕ, ◌<◌, All}
 use Rattle.facet_graph.specs.Labels.{node_of}
 use Rattle.facet_graph.proofs.labels.push_steps.Given as goal
 

@@ -13,8 +13,7 @@ pub returns-clause-found : goal.returns-clause-found
 returns-clause-found c =
     let old = c.args.spans.now.items in
     let new = c.sort_by_key.new.self.items in
-    let moved = c.in_ok-sort_by_key.ensures.permutation in
-    (
+    let moved = c.in_ok-sort_by_key.ensures.permutation in (
       λ found. overlap_moved old new moved (subst HaveOverlap c.deref.ensures.value (c.neighbours_overlap.ensures.0 found)),
       λ overlap. c.neighbours_overlap.ensures.1 (subst HaveOverlap (sym c.deref.ensures.value) (overlap_moved new old (IsPermutation-sym old new moved) overlap)),
     )

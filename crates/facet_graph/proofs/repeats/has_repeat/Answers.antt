@@ -1,7 +1,7 @@
-use Rattle.std.proofs.Common.{◌≡◌, ◌≤◌, ◌<◌, ◌+◌, ◌||◌, true, false, get_or, take, refl, sym, ◌∙◌, ap, subst, inl, inr, arith}
+use Rattle.std.proofs.Common.{◌≤◌, ◌+◌, ◌||◌, get_or, take, refl, sym, ◌∙◌, ap, subst, inl, inr, arith}
 use Rattle.std.specs.List.{count_by}
 use Rattle.std.specs.Ordering.{int_eq}
-use Rattle.std.specs.Prelude.{ℤ, pos}
+use Rattle.std.specs.Prelude.{pos}
 use Rattle.std.proofs.lemmas.Bool.{cases_Bool}
 use Rattle.std.proofs.lemmas.Bool.Decides.{Decides-int_eq}
 use Rattle.std.proofs.lemmas.List.{take_all}
@@ -43,8 +43,11 @@ loop-value-preserved c =
     }
 
 pub returns : goal.returns
-returns c = (λ never. cc, λ repeat. absurd (
-  let all = take_all c.loop-value.value-index c.args.values.now (omega arith) in
-  let upto = subst (λ ys. count_by (λ v. int_eq v repeat.value) ys ≤ 1) all (c.loop-value.invariant.once repeat.value) in
-  omega (arith, upto, repeat.twice)
-))
+returns c = (
+  λ never. cc,
+  λ repeat. absurd (
+      let all = take_all c.loop-value.value-index c.args.values.now (omega arith) in
+      let upto = subst (λ ys. count_by (λ v. int_eq v repeat.value) ys ≤ 1) all (c.loop-value.invariant.once repeat.value) in
+      omega (arith, upto, repeat.twice)
+      ),
+)

@@ -1,4 +1,4 @@
-use Rattle.std.proofs.Common.{◌≡◌, sym, subst}
+use Rattle.std.proofs.Common.{sym, subst}
 use Rattle.facet_graph.specs.Trail.{IsTrail}
 use Rattle.facet_graph.proofs.Trails.{back_where_found, back_where_refused}
 use Rattle.facet_graph.proofs.search.reaches_bad.Goals as goal

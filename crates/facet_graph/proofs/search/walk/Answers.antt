@@ -1,7 +1,6 @@
-use Rattle.std.proofs.Common.{◌≡◌, ◌<◌, ◌++◌, ◌∷◌, [], List, All, length, false, get_or, set, refl, sym, ◌∙◌, ap, subst, arith}
+use Rattle.std.proofs.Common.{◌≡◌, ◌<◌, length, false, refl, sym, ◌∙◌, arith}
 use Rattle.std.proofs.lemmas.List.{get_or_read_under}
 use Rattle.std.proofs.lemmas.List.Elements.{All-push}
-use Rattle.facet_graph.specs.Trail.{IsTrail}
 use Rattle.facet_graph.proofs.Frontier.{expands, finds, marked_clean, nothing_left, passes, starts_clean, starts_marked, within_edges, within_front, within_last}
 use Rattle.facet_graph.proofs.Trails.{trail_grows}
 use Rattle.facet_graph.proofs.Work.{work_falls}
