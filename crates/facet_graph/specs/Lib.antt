@@ -1,3 +1,4 @@
+pub mod Components
 pub mod Cost
 pub mod Height
 pub mod Labels

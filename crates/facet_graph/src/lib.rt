@@ -1,10 +1,12 @@
 //! Searches over graphs whose nodes are numbers: which node reaches itself, how high each one is, what it costs with
-//! all that hangs on it, and whether a bad node is reached. Nothing recurses, and out of memory is the only refusal.
+//! all that hangs on it, and whether a bad node is reached. Beside them, whether a number is listed twice, and whether
+//! two spans share a byte. Nothing recurses, and out of memory is the only refusal.
 //!
-//! The first nodes of a graph may be known from before: tables begin with their entries and are lengthened for the
-//! others. The edges of those first nodes are then not asked for.
+//! The first nodes of a graph may be known from before: a table begins with their entries and is lengthened for the
+//! others, whose edges alone are read.
 #![tactic(auto)]
 
+mod components;
 mod costs;
 mod cycles;
 mod graph;

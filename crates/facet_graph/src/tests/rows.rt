@@ -198,6 +198,7 @@ fn a_hundred_nodes_one_behind_another_are_not_too_high(rt: HostRuntime) -> Resul
         assert_eq!(rt; found.too_high, too_high);
         assert_eq!(rt; found.on_cycle, None);
         assert_eq!(rt; found.heights.len(), count);
+        assert!(rt; !found.searched.contains(&true));
     }
     Ok(())
 }

@@ -1,9 +1,9 @@
 use Rattle.std.proofs.Common.{◌<◌, ◌++◌, All, get_or, subst, sym, ◌∙◌, ap, vec_len, arith}
 use Rattle.std.proofs.lemmas.List.Elements.{All-push, Contains-get_or}
-use Rattle.facet_graph.specs.Labels.{node_of}
-use Rattle.facet_graph.specs.declared.labels.Step.{Step}
-use Rattle.facet_graph.specs.declared.labels.Step.TheVariants as step
-use Rattle.facet_graph.proofs.labels.enter.Goals as goal
+use Rattle.facet_graph.specs.Components.{node_of}
+use Rattle.facet_graph.specs.declared.components.Step.{Step}
+use Rattle.facet_graph.specs.declared.components.Step.TheVariants as step
+use Rattle.facet_graph.proofs.components.enter.Goals as goal
 
 pub returns-clause-inside : goal.returns-clause-inside
 returns-clause-inside g c =

@@ -1,6 +1,6 @@
 use Rattle.std.proofs.Common.{◌≡◌, vec_len}
-use Rattle.facet_graph.specs.Labels.{IsInside}
-use Rattle.facet_graph.proofs.labels.component_labels.Given as goal
+use Rattle.facet_graph.specs.Components.{IsInside}
+use Rattle.facet_graph.proofs.components.component_labels.Given as goal
 
 abbrev pub invariant-loop-node : goal.invariant-loop-node
 invariant-loop-node g l = record {
