@@ -1,0 +1,10 @@
+pub mod Components
+pub mod Cost
+pub mod Height
+pub mod Labels
+pub mod Least
+pub mod Marks
+pub mod Passes
+pub mod Reach
+pub mod Repeats
+pub mod Trail
