@@ -10,8 +10,8 @@ use Rattle.facet_leaf.specs.LeafLaws.{LeafLaws}
 use Rattle.facet_leaf.specs.LeafModel.{LeafModel}
 use Rattle.facet_block.specs.Block.{size_of}
 use Rattle.facet_shapes.specs.Registry.{Registry, kind_at, size_at, offers}
-use Rattle.facet_shapes.specs.declared.value_kind.ValueKind.{ValueKind}
-use Rattle.facet_shapes.specs.declared.value_kind.ValueKind.TheVariants as kind
+use Rattle.facet_outline.specs.declared.value_kind.ValueKind.{ValueKind}
+use Rattle.facet_outline.specs.declared.value_kind.ValueKind.TheVariants as kind
 use Rattle.facet_values.proofs.LeafReading.{leaf_block_size, reads_leaf}
 use Rattle.facet_values.specs.Place.{leaf_block, start_of}
 use Rattle.facet_values.specs.Reading.{Reads}

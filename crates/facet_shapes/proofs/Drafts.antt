@@ -5,6 +5,7 @@ use Rattle.std.proofs.lemmas.Option.{slice_get_cases, slice_get_within}
 use Rattle.facet_base.proofs.Lists.{slice_get_front, slice_get_take}
 use Rattle.facet_base.specs.declared.known_pointer.KnownPointer.{KnownPointer}
 use Rattle.facet_base.specs.declared.known_pointer.KnownPointer.TheVariants as known
+use Rattle.facet_base.specs.declared.layout.ShapeId.{ShapeId}
 use Rattle.facet_base.specs.declared.scalar_type.ScalarType.{ScalarType}
 use Rattle.facet_base.specs.declared.scalar_type.ScalarType.TheVariants as scalar
 use Rattle.facet_def.specs.declared.def.Def.{Def}
@@ -14,9 +15,10 @@ use Rattle.facet_desc.specs.declared.ty.Ty.TheVariants as ty
 use Rattle.facet_desc.specs.declared.ty.UserType.TheVariants as user
 use Rattle.facet_leaf.specs.LeafModel.{LeafModel}
 use Rattle.facet_shape.specs.declared.shape.Shape.{Shape}
-use Rattle.facet_shapes.specs.declared.value_kind.ValueKind.TheVariants as kind
+use Rattle.facet_outline.specs.ValueKind.{kind_by_def, kind_by_scalar, kind_by_type, kind_of_box, kind_of_pointer}
+use Rattle.facet_outline.specs.declared.value_kind.ValueKind.TheVariants as kind
 use Rattle.facet_shapes.specs.Registry.{Registry, kind_at, kind_of_found, offered_by, shape_at, size_of_found, without_drafts}
-use Rattle.facet_shapes.specs.ValueKind.{kind_by_type, kind_of_box, kind_of_pointer, kind_by_def, kind_by_scalar}
+use Rattle.facet_shapes.specs.ValueKind.{element_of}
 use Rattle.facet_shapes.specs.WellFormed.{IsRegistry, IsWellFormed}
 
 -- the last of a list stands behind the others
@@ -30,20 +32,20 @@ no_leaf_by_type (ty.User (user.Struct s)) k same = cc
 no_leaf_by_type (ty.User (user.Enum e)) k same = cc
 no_leaf_by_type _ k same = cc
 
-no_leaf_in_box : (content : Option Def) (k : ScalarType) → kind_of_box content ≡ kind.Leaf k → ⊥
-no_leaf_in_box (Some (def.Slice d)) k same = cc
-no_leaf_in_box _ k same = cc
+no_leaf_in_box : (element : Option ShapeId) (k : ScalarType) → kind_of_box element ≡ kind.Leaf k → ⊥
+no_leaf_in_box (Some id) k same = cc
+no_leaf_in_box None k same = cc
 
-no_leaf_by_pointer : (pointer : Option KnownPointer) (content : Option Def) (k : ScalarType) → kind_of_pointer pointer content ≡ kind.Leaf k → ⊥
-no_leaf_by_pointer (Some known.Box) content k same = no_leaf_in_box content k same
-no_leaf_by_pointer _ content k same = cc
+no_leaf_by_pointer : (pointer : Option KnownPointer) (element : Option ShapeId) (k : ScalarType) → kind_of_pointer element pointer ≡ kind.Leaf k → ⊥
+no_leaf_by_pointer (Some known.Box) element k same = no_leaf_in_box element k same
+no_leaf_by_pointer _ element k same = cc
 
-no_leaf_by_def : (shapes : List Shape) (d : Def) (t : Ty) (k : ScalarType) → kind_by_def shapes d t ≡ kind.Leaf k → ⊥
-no_leaf_by_def shapes (def.Pointer p) t k same = no_leaf_by_pointer p.known _ k same
-no_leaf_by_def shapes def.Undefined t k same = no_leaf_by_type t k same
-no_leaf_by_def shapes _ t k same = cc
+no_leaf_by_def : (element : Option ShapeId) (d : Def) (t : Ty) (k : ScalarType) → kind_by_def element d t ≡ kind.Leaf k → ⊥
+no_leaf_by_def element (def.Pointer p) t k same = no_leaf_by_pointer p.known element k same
+no_leaf_by_def element def.Undefined t k same = no_leaf_by_type t k same
+no_leaf_by_def element _ t k same = cc
 
-leaf_among : (of : Option ScalarType) (before after : List Shape) (d : Def) (t : Ty) (k : ScalarType)
+leaf_among : (of : Option ScalarType) (before after : Option ShapeId) (d : Def) (t : Ty) (k : ScalarType)
     → kind_by_scalar of after d t ≡ kind.Leaf k → kind_by_scalar of before d t ≡ kind.Leaf k
 leaf_among (Some scalar.Unit) before after d t k same = same
 leaf_among (Some scalar.Str) before after d t k same = absurd (no_leaf_by_def after d t k same)
@@ -52,7 +54,7 @@ leaf_among (Some _) before after d t k same = same
 
 leaf_found : (found : Option Shape) (before after : List Shape) (k : ScalarType) → kind_of_found after found ≡ kind.Leaf k → kind_of_found before found ≡ kind.Leaf k
 leaf_found None before after k same = same
-leaf_found (Some shape) before after k same = leaf_among shape.scalar before after shape.def shape.ty k same
+leaf_found (Some shape) before after k same = leaf_among shape.scalar (element_of before shape.def) (element_of after shape.def) shape.def shape.ty k same
 
 -- what is well formed in one registry is so in another one that has the same shape under that id
 well_formed_still : {L : Type 0} (m : LeafModel L) (before after : Registry) (s : ℕ) → shape_at after s ≡ shape_at before s → IsWellFormed m before s → IsWellFormed m after s

@@ -1,8 +1,9 @@
 -- The registry that has the prelude alone.
-use Rattle.std.proofs.Common.{◌≡◌, ◌≢◌, ℕ, zero, suc, ◌+◌, ◌<◌, ◌≤◌, true, List, [], ◌∷◌, ◌++◌, length, get_or, drop, take, slice_get, unwrap_or, Option, Some, refl, sym, ap, ◌∙◌, subst, arith}
+use Rattle.std.proofs.Common.{◌≡◌, ◌≢◌, ℕ, zero, suc, ◌+◌, ◌<◌, ◌≤◌, true, List, [], ◌∷◌, ◌++◌, length, get_or, drop, take, slice_get, unwrap_or, Option, None, Some, refl, sym, ap, ◌∙◌, subst, arith}
 use Rattle.std.proofs.lemmas.List.{append-nil, append_assoc, drop_all, drop_more, length-append, take_all}
 use Rattle.facet_base.specs.declared.characteristic.Characteristic.{Characteristic}
 use Rattle.facet_base.specs.declared.characteristic.Characteristic.TheVariants as trait
+use Rattle.facet_base.specs.declared.layout.ShapeId.{ShapeId}
 use Rattle.facet_base.specs.declared.scalar_type.ScalarType.{ScalarType}
 use Rattle.facet_base.specs.declared.scalar_type.ScalarType.TheVariants as scalar
 use Rattle.facet_def.specs.declared.def.Def.TheVariants as def
@@ -11,21 +12,21 @@ use Rattle.facet_shape.specs.ShapeBuilder.{fresh_shape}
 use Rattle.facet_shape.specs.Capability.{can}
 use Rattle.facet_base.specs.ShapeLayout.{size_in_bytes}
 use Rattle.facet_shape.specs.declared.shape.Shape.{Shape}
-use Rattle.facet_shapes.specs.declared.value_kind.ValueKind.TheVariants as kind
+use Rattle.facet_outline.specs.declared.value_kind.ValueKind.TheVariants as kind
 use Rattle.facet_shapes.specs.Prelude.{prelude, prelude_kinds, scalar_layout, scalar_shape, scalar_shapes, scalar_ty}
 use Rattle.facet_shapes.specs.Registry.{Registry, kind_of_found, offered_by, size_of_found}
-use Rattle.facet_shapes.specs.ValueKind.{kind_by_scalar}
+use Rattle.facet_outline.specs.ValueKind.{kind_by_scalar}
 use Rattle.facet_shapes.specs.WellFormed.{IsRegistry}
 
 abbrev registry_of : List Shape → ℕ → Registry
 registry_of shapes sealed = record { shapes = shapes; sealed = sealed }
 
 -- scalars that are leaves are of the shape's kind, which isn't Unit, and have a byte or more
-leaf_of_scalar : (among : List Shape) (k of : ScalarType) → kind_by_scalar (Some k) among def.Scalar (scalar_ty k) ≡ kind.Leaf of
+leaf_of_scalar : (element : Option ShapeId) (k of : ScalarType) → kind_by_scalar (Some k) element def.Scalar (scalar_ty k) ≡ kind.Leaf of
     → (k ≢ scalar.Unit) × (k ≡ of) × (0 < unwrap_or (size_in_bytes (scalar_layout k)) 0)
-leaf_of_scalar among scalar.Unit of same = absurd (cc)
-leaf_of_scalar among scalar.Str of same = absurd (cc)
-leaf_of_scalar among _ of same = (λ unit. cc, cc, omega arith)
+leaf_of_scalar element scalar.Unit of same = absurd (cc)
+leaf_of_scalar element scalar.Str of same = absurd (cc)
+leaf_of_scalar element _ of same = (λ unit. cc, cc, omega arith)
 
 module _ {L : Type 0} (m : LeafModel L) where
   -- all scalars but the unit offer what their leaves can do
@@ -50,7 +51,7 @@ module _ {L : Type 0} (m : LeafModel L) where
   scalar_is_for_leaves : (among : List Shape) (id : ℕ) (k : ScalarType) → IsForLeaves among (Some (scalar_shape m id k))
   unfolding scalar_shape fresh_shape
   scalar_is_for_leaves among id k of same =
-      let leaf = leaf_of_scalar among k of same in
+      let leaf = leaf_of_scalar None k of same in
       (leaf.2, λ c offered. subst (λ j. m.can j c ≡ true) leaf.1 (sym (offered_by_scalar id k c leaf.0) ∙ offered))
 
   scalars_are_for_leaves : (among : List Shape) (id : ℕ) (kinds : List ScalarType) (s : ℕ) → IsForLeaves among (slice_get (scalar_shapes m id kinds) s)

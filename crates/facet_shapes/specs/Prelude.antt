@@ -22,6 +22,7 @@ use Rattle.facet_desc.specs.declared.ty.Ty.TheVariants as ty
 use Rattle.facet_desc.specs.declared.ty.UserType.TheVariants as user
 use Rattle.facet_leaf.specs.LeafModel.{LeafModel}
 use Rattle.facet_leaf.specs.declared.hook.LeafHook.TheVariants as hook
+pub use Rattle.facet_outline.specs.Layout.{scalar_layout}
 use Rattle.facet_shape.specs.ShapeBuilder.{fresh_shape}
 use Rattle.facet_shape.specs.declared.shape.Shape.{Shape}
 use Rattle.facet_shapes.specs.Registry.{Registry}
@@ -58,30 +59,6 @@ scalar_module _ = None
 -- a shape in that module, where there is one
 abbrev pub in_module : ScalarType → Shape → Shape
 in_module k s = record s { module_path = option_or (scalar_module k) s.module_path }
-
--- a size and an alignment in bytes
-abbrev pub sized : ℕ → ℕ → ShapeLayout
-sized size align = layout.Sized (record { size = size; align = align })
-
--- the layout of the scalars of a kind
-abbrev pub scalar_layout : ScalarType → ShapeLayout
-scalar_layout scalar.Unit = sized 0 1
-scalar_layout scalar.Bool = sized 1 1
-scalar_layout scalar.Char = sized 4 4
-scalar_layout scalar.Str = layout.Unsized
-scalar_layout scalar.String = sized 24 8
-scalar_layout scalar.U8 = sized 1 1
-scalar_layout scalar.U16 = sized 2 2
-scalar_layout scalar.U32 = sized 4 4
-scalar_layout scalar.U64 = sized 8 8
-scalar_layout scalar.U128 = sized 16 16
-scalar_layout scalar.USize = sized 8 8
-scalar_layout scalar.I8 = sized 1 1
-scalar_layout scalar.I16 = sized 2 2
-scalar_layout scalar.I32 = sized 4 4
-scalar_layout scalar.I64 = sized 8 8
-scalar_layout scalar.I128 = sized 16 16
-scalar_layout scalar.ISize = sized 8 8
 
 -- the kinds of the sixteen scalars, in the order of their ids
 abbrev pub prelude_kinds : List ScalarType

@@ -5,8 +5,8 @@ use Rattle.facet_shape.specs.declared.shape.Shape.{Shape}
 use Rattle.facet_shape.specs.Capability.{can}
 use Rattle.facet_base.specs.ShapeLayout.{size_in_bytes}
 use Rattle.facet_shape.specs.WithoutSpare.{shape_without_spare}
-use Rattle.facet_shapes.specs.declared.value_kind.ValueKind.{ValueKind}
-use Rattle.facet_shapes.specs.declared.value_kind.ValueKind.TheVariants as kind
+use Rattle.facet_outline.specs.declared.value_kind.ValueKind.{ValueKind}
+use Rattle.facet_outline.specs.declared.value_kind.ValueKind.TheVariants as kind
 use Rattle.facet_shapes.specs.ValueKind.{kind_of_shape}
 
 -- the shapes in order of their ids, of which the first ones are sealed

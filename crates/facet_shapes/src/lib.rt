@@ -10,6 +10,6 @@ mod value_kind;
 pub use capability::{
     all, all_default, all_hash, all_ord, all_partial_eq, all_partial_ord, any, none,
 };
+pub use facet_outline::ValueKind;
 pub use facet_shape::Shape;
 pub use registry::Shapes;
-pub use value_kind::ValueKind;

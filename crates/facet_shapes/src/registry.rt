@@ -7,9 +7,10 @@ ghost use Rattle.facet_shapes.specs.WellFormed.{IsRegistry};
 
 use crate::scalar_shape::scalar_shape;
 use crate::shape_list::ShapeList;
-use crate::value_kind::{ValueKind, kind_of};
+use crate::value_kind::kind_of;
 use facet_base::{ScalarType, ShapeId, ShapeLayout};
 use facet_leaf::Leaf;
+use facet_outline::ValueKind;
 use facet_shape::Shape;
 use std::alloc::{AllocError, Global};
 use std::marker::{Model, PhantomData};

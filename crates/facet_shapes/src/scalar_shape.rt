@@ -1,14 +1,13 @@
 ghost use Rattle.std.specs.Prelude.{◌≡◌, IfOk};
 ghost use Rattle.facet_shape.specs.WithoutSpare.{shape_without_spare};
-ghost use Rattle.facet_shapes.specs.Prelude.{whole, scalar_ty, scalar_markers, scalar_layout, in_module, sized as sized_layout, scalar_vtable as vtable_of, scalar_ops as ops_of, with_scalar, scalar_shape as shape_of};
+ghost use Rattle.facet_shapes.specs.Prelude.{whole, scalar_ty, scalar_markers, in_module, scalar_vtable as vtable_of, scalar_ops as ops_of, with_scalar, scalar_shape as shape_of};
 
-use facet_base::{
-    Characteristic, Flags, Layout, MarkerTraits, ScalarType, ShapeId, ShapeLayout, Text,
-};
+use facet_base::{Characteristic, Flags, MarkerTraits, ScalarType, ShapeId, Text};
 use facet_caps::{TypeOpsDirect, VTableDirect};
 use facet_def::Def;
 use facet_desc::{NumericType, PrimitiveType, TextualType, Ty, UserType};
 use facet_leaf::{Leaf, LeafHook};
+use facet_outline::scalar_layout;
 use facet_shape::{Shape, ShapeBuilder};
 use std::alloc::{AllocError, Global};
 
@@ -37,7 +36,7 @@ fn described<L: Leaf>(
     ensures { IfOk result (λ shape. shape ≡ with_scalar L.model kind builder) }
 {
     let builder = builder
-        .layout(layout(kind))
+        .layout(scalar_layout(kind))
         .vtable_direct(scalar_vtable::<L>(kind))
         .type_ops_direct(scalar_ops::<L>(kind))
         .marker_traits(marker_traits(kind))
@@ -45,29 +44,6 @@ fn described<L: Leaf>(
         .def(Def::Scalar)
         .scalar(kind);
     with_module(alloc, builder, kind)
-}
-
-// The layout of the scalars of a kind.
-fn layout(kind: ScalarType) -> ShapeLayout
-    ensures { result ≡ scalar_layout kind }
-{
-    match kind {
-        ScalarType::Unit => sized(0, 1),
-        ScalarType::Bool | ScalarType::U8 | ScalarType::I8 => sized(1, 1),
-        ScalarType::U16 | ScalarType::I16 => sized(2, 2),
-        ScalarType::Char | ScalarType::U32 | ScalarType::I32 => sized(4, 4),
-        ScalarType::U64 | ScalarType::USize | ScalarType::I64 | ScalarType::ISize => sized(8, 8),
-        ScalarType::U128 | ScalarType::I128 => sized(16, 16),
-        ScalarType::String => sized(24, 8),
-        ScalarType::Str => ShapeLayout::Unsized,
-    }
-}
-
-// The layout of this size and alignment in bytes.
-fn sized(size: usize, align: usize) -> ShapeLayout
-    ensures { result ≡ sized_layout size align }
-{
-    ShapeLayout::Sized(Layout { size, align })
 }
 
 // The shape in the module of the scalars of a kind, where they aren't built in.

@@ -9,8 +9,8 @@ use Rattle.facet_block.specs.Block.{item_at, leaf_of, size_of, empty_block}
 use Rattle.facet_block.specs.Span.{IsBeside}
 use Rattle.facet_block.proofs.Ranges.{size_empty, item_empty, size_with_item, item_there, item_elsewhere}
 use Rattle.facet_shapes.specs.Registry.{Registry, kind_at, size_at}
-use Rattle.facet_shapes.specs.declared.value_kind.ValueKind.{ValueKind}
-use Rattle.facet_shapes.specs.declared.value_kind.ValueKind.TheVariants as kind
+use Rattle.facet_outline.specs.declared.value_kind.ValueKind.{ValueKind}
+use Rattle.facet_outline.specs.declared.value_kind.ValueKind.TheVariants as kind
 use Rattle.facet_values.specs.Place.{Place, leaf_block, start_of}
 use Rattle.facet_values.specs.Seen.{a_leaf, seen_leaf, seen}
 use Rattle.facet_values.specs.Reading.{own_span, spans_of_kind, IsAlone, IsOfKind, IsWhole, Reads, IsReadable}

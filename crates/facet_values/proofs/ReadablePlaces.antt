@@ -10,8 +10,8 @@ use Rattle.facet_block.specs.Block.{item_at, item_kind, item_kind_at, leaf_of, s
 use Rattle.facet_block.specs.Span.{span, IsBeside, IsCleared}
 use Rattle.facet_block.proofs.Ranges.{size_with_item, item_there, item_elsewhere}
 use Rattle.facet_shapes.specs.Registry.{Registry, kind_at, size_at}
-use Rattle.facet_shapes.specs.declared.value_kind.ValueKind.{ValueKind}
-use Rattle.facet_shapes.specs.declared.value_kind.ValueKind.TheVariants as kind
+use Rattle.facet_outline.specs.declared.value_kind.ValueKind.{ValueKind}
+use Rattle.facet_outline.specs.declared.value_kind.ValueKind.TheVariants as kind
 use Rattle.facet_values.specs.declared.form.Form.{Form}
 use Rattle.facet_values.specs.Place.{Place}
 use Rattle.facet_values.specs.Seen.{a_node, seen_leaf, seen_kind, seen, leaf_of_seen, leaf_at}

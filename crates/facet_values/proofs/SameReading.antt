@@ -5,8 +5,8 @@ use Rattle.facet_leaf.specs.LeafModel.{LeafModel}
 use Rattle.facet_block.specs.declared.block.Item.{Item}
 use Rattle.facet_block.specs.Block.{item_at, leaf_of}
 use Rattle.facet_shapes.specs.Registry.{Registry, kind_at}
-use Rattle.facet_shapes.specs.declared.value_kind.ValueKind.{ValueKind}
-use Rattle.facet_shapes.specs.declared.value_kind.ValueKind.TheVariants as kind
+use Rattle.facet_outline.specs.declared.value_kind.ValueKind.{ValueKind}
+use Rattle.facet_outline.specs.declared.value_kind.ValueKind.TheVariants as kind
 use Rattle.facet_shapes.specs.WellFormed.{IsRegistry}
 use Rattle.facet_values.specs.Place.{Place}
 use Rattle.facet_values.specs.Seen.{seen_kind, seen}

@@ -4,8 +4,8 @@ use Rattle.facet_leaf.specs.LeafModel.{LeafModel}
 use Rattle.facet_block.specs.Block.{item_at, leaf_of, size_of}
 use Rattle.facet_block.specs.Span.{Span, IsBeside}
 use Rattle.facet_shapes.specs.Registry.{Registry, kind_at, size_at}
-use Rattle.facet_shapes.specs.declared.value_kind.ValueKind.{ValueKind}
-use Rattle.facet_shapes.specs.declared.value_kind.ValueKind.TheVariants as kind
+use Rattle.facet_outline.specs.declared.value_kind.ValueKind.{ValueKind}
+use Rattle.facet_outline.specs.declared.value_kind.ValueKind.TheVariants as kind
 use Rattle.facet_values.specs.Place.{Place, item_behind}
 use Rattle.facet_values.specs.Seen.{a_leaf, a_node, seen}
 use Rattle.facet_values.specs.Value.{Value, Values, leaf, node, none, more}

@@ -3,8 +3,8 @@ use Rattle.std.specs.Prelude.{List, [], Option, None, Some}
 use Rattle.facet_block.specs.declared.block.Item.{Item}
 use Rattle.facet_block.specs.Block.{item_at, leaf_of}
 use Rattle.facet_shapes.specs.Registry.{Registry, kind_at}
-use Rattle.facet_shapes.specs.declared.value_kind.ValueKind.{ValueKind}
-use Rattle.facet_shapes.specs.declared.value_kind.ValueKind.TheVariants as kind
+use Rattle.facet_outline.specs.declared.value_kind.ValueKind.{ValueKind}
+use Rattle.facet_outline.specs.declared.value_kind.ValueKind.TheVariants as kind
 use Rattle.facet_values.specs.declared.form.Form.{Form}
 use Rattle.facet_values.specs.declared.form.Form.TheVariants as form
 use Rattle.facet_values.specs.Place.{Place}

@@ -1,7 +1,7 @@
 ghost use Rattle.std.specs.Prelude.{◌≡◌, ◌<◌, ℕ};
 ghost use Rattle.facet_base.specs.declared.scalar_type.ScalarType.{ScalarType};
 ghost use Rattle.facet_shapes.specs.Registry.{Registry, kind_at, size_at};
-ghost use Rattle.facet_shapes.specs.declared.value_kind.ValueKind.TheVariants as ValueKind;
+ghost use Rattle.facet_outline.specs.declared.value_kind.ValueKind.TheVariants as ValueKind;
 ghost use Rattle.facet_shapes.specs.WellFormed.{IsRegistry};
 ghost use Rattle.facet_values.specs.Place.{Place, leaf_block, start_of};
 ghost use Rattle.facet_values.specs.Reading.{Reads, HoldsSame};

@@ -2,7 +2,7 @@ use Rattle.std.proofs.Common.{◌≡◌, ◌∙◌, ◌++◌, sym, ap, arith, le
 use Rattle.std.proofs.lemmas.List.{append-nil}
 use Rattle.facet_base.specs.declared.scalar_type.ScalarType.{ScalarType}
 use Rattle.facet_shapes.specs.Registry.{kind_at}
-use Rattle.facet_shapes.specs.declared.value_kind.ValueKind.TheVariants as kind
+use Rattle.facet_outline.specs.declared.value_kind.ValueKind.TheVariants as kind
 use Rattle.facet_values.specs.Place.{place_in}
 use Rattle.facet_values.proofs.ReadablePlaces.{leaf_held, leaf_read, no_leaves, cleared_of_leaf, cleared_of_nothing, no_span_by_kind}
 use Rattle.facet_make.proofs.value.drop_value.Goals as goal

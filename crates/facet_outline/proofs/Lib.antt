@@ -1,0 +1,5 @@
+pub mod PartReferences
+mod Rounding
+pub mod SameCauses
+pub mod SameItems
+mod TupleLayouts

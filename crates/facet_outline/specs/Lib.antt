@@ -1,0 +1,9 @@
+pub mod BadLayout
+pub mod Discriminant
+pub mod Field
+pub mod Layout
+pub mod Mismatch
+pub mod Offered
+pub mod Part
+pub mod References
+pub mod ValueKind
