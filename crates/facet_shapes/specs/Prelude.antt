@@ -4,8 +4,6 @@ use Rattle.std.specs.Option.{option_or}
 use Rattle.facet_base.specs.Fnv.{fnv, fnv_start}
 use Rattle.facet_base.specs.ScalarType.{identifier_of}
 use Rattle.facet_base.specs.declared.characteristic.Characteristic.TheVariants as trait
-use Rattle.facet_base.specs.declared.layout.ShapeLayout.{ShapeLayout}
-use Rattle.facet_base.specs.declared.layout.ShapeLayout.TheVariants as layout
 use Rattle.facet_base.specs.declared.scalar_type.ScalarType.{ScalarType}
 use Rattle.facet_base.specs.declared.scalar_type.ScalarType.TheVariants as scalar
 use Rattle.facet_caps.specs.EmptyRecords.{empty_direct}
