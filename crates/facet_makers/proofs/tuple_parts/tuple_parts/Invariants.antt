@@ -1,0 +1,10 @@
+use Rattle.std.proofs.Common.{◌≡◌, drop}
+use Rattle.std.specs.Prelude.{fold}
+use Rattle.facet_makers.specs.Parts.{part_at}
+use Rattle.facet_makers.specs.Types.{tuple_parts, with_part}
+use Rattle.facet_makers.proofs.tuple_parts.tuple_parts.Given as goal
+
+-- the parts so far, and then those that are left, are all
+abbrev pub invariant-loop-t : goal.invariant-loop-t
+invariant-loop-t g l =
+    fold (λ tuple t. with_part tuple t (part_at l.shapes t.0)) l.tuple (drop l.t-index l.ids) ≡ tuple_parts (λ t. part_at l.shapes t.0) l.ids

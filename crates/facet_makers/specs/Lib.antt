@@ -1,0 +1,7 @@
+pub mod Generic
+pub mod Makers
+pub mod Offering
+pub mod Operations
+pub mod Parts
+pub mod SuitsKind
+pub mod Types

@@ -1,0 +1,33 @@
+//! The makers: each drafts the shape of a generic type over shapes that are there.
+#![tactic(auto)]
+
+mod array;
+mod boxes;
+mod draft;
+mod generic;
+pub mod laws;
+mod list;
+mod map;
+mod offering;
+mod operations;
+mod option;
+mod parts;
+mod result;
+mod set;
+mod slice;
+#[cfg(test)]
+mod tests;
+mod tuple;
+mod tuple_parts;
+mod types;
+
+pub use array::array_of;
+pub use boxes::{box_of, boxed_slice_of};
+pub use list::list_of;
+pub use map::map_of;
+pub use option::option_of;
+pub use parts::is_slice;
+pub use result::result_of;
+pub use set::set_of;
+pub use slice::slice_of;
+pub use tuple::tuple_of;
