@@ -2,13 +2,13 @@ ghost use Rattle.std.specs.Prelude.{◌≡◌, ◌<◌, ◌-◌, ◌^◌, length
 ghost use Rattle.facet_shape.specs.WithoutSpare.{shape_without_spare};
 ghost use Rattle.facet_shapes.specs.Registry.{with_draft};
 ghost use Rattle.facet_makers.specs.Makers.{array_shape};
-ghost use Rattle.facet_makers.specs.Parts.{part_at};
+ghost use Rattle.facet_makers.specs.PartShape.{part_at};
 
 use crate::draft::draft;
 use crate::generic::{built_in, with_length, with_parameter};
 use crate::offering::offering;
 use crate::operations::array_operations;
-use crate::parts::part_at;
+use crate::part_shape::part_at;
 use facet_base::{Layout, NameForm, ShapeId, ShapeLayout};
 use facet_def::{ArrayDef, Def};
 use facet_desc::{ArrayType, SequenceType, Ty};

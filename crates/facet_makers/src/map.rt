@@ -2,13 +2,13 @@ ghost use Rattle.std.specs.Prelude.{◌≡◌, ◌<◌, ◌-◌, ◌^◌, length
 ghost use Rattle.facet_shape.specs.WithoutSpare.{shape_without_spare};
 ghost use Rattle.facet_shapes.specs.Registry.{with_draft};
 ghost use Rattle.facet_makers.specs.Makers.{map_shape};
-ghost use Rattle.facet_makers.specs.Parts.{part_at};
+ghost use Rattle.facet_makers.specs.PartShape.{part_at};
 
 use crate::draft::draft;
 use crate::generic::{in_module, with_parameter};
 use crate::offering::offering;
 use crate::operations::map_operations;
-use crate::parts::part_at;
+use crate::part_shape::part_at;
 use facet_base::{Layout, NameForm, ShapeId, ShapeLayout};
 use facet_def::{Def, MapDef};
 use facet_desc::{Ty, UserType};

@@ -2,13 +2,13 @@ ghost use Rattle.std.specs.Prelude.{◌≡◌, ◌<◌, ◌-◌, ◌^◌, length
 ghost use Rattle.facet_shape.specs.WithoutSpare.{shape_without_spare};
 ghost use Rattle.facet_shapes.specs.Registry.{with_draft};
 ghost use Rattle.facet_makers.specs.Makers.{option_shape};
-ghost use Rattle.facet_makers.specs.Parts.{part_at};
+ghost use Rattle.facet_makers.specs.PartShape.{part_at};
 
 use crate::draft::draft;
 use crate::generic::{in_module, with_parameter};
 use crate::offering::offering;
 use crate::operations::option_operations;
-use crate::parts::part_at;
+use crate::part_shape::part_at;
 use crate::types::option_type;
 use facet_base::{Layout, NameForm, ShapeId, ShapeLayout};
 use facet_def::{Def, OptionDef};

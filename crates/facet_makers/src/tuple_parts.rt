@@ -1,14 +1,14 @@
 ghost use Rattle.std.specs.Prelude.{◌≡◌, ◌<◌, ◌≤◌, ◌^◌, IfOk, decimal, fold};
 ghost use Rattle.facet_desc.specs.Field.{fresh_field};
 ghost use Rattle.facet_desc.specs.WithoutSpare.{field_without_spare};
-ghost use Rattle.facet_makers.specs.Parts.{part_at};
+ghost use Rattle.facet_makers.specs.PartShape.{part_at};
 ghost use Rattle.facet_makers.specs.Types.{no_parts, tuple_parts, with_part};
 
-use crate::parts::part_at;
+use crate::part_shape::part_at;
 use facet_base::{Layout, Many, ShapeId, Text};
 use facet_desc::{Field, FieldBuilder};
 use facet_leaf::Leaf;
-use facet_outline::rounded;
+use facet_outline::next_offset;
 use facet_shapes::Shapes;
 use std::alloc::{AllocError, Global};
 use std::marker::Model;
@@ -50,7 +50,7 @@ impl TupleParts {
     fn with_part(self, alloc: Global, t: ShapeId, part: Layout) -> Result<TupleParts, AllocError>
         ensures { IfOk result (λ more. more ≡ with_part self t part) }
     {
-        let offset = rounded(self.end, part.align).size;
+        let offset = next_offset(self.end, part);
         let mut fields = self.fields;
         fields.push(field(alloc, fields.len(), t, offset)?)?;
         Ok(TupleParts {

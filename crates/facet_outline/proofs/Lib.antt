@@ -2,4 +2,3 @@ pub mod PartReferences
 mod Rounding
 pub mod SameCauses
 pub mod SameItems
-mod TupleLayouts

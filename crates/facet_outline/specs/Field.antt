@@ -7,10 +7,10 @@ use Rattle.facet_desc.specs.declared.struct_type.StructType.{StructType}
 use Rattle.facet_desc.specs.declared.ty.Ty.{Ty}
 use Rattle.facet_desc.specs.declared.ty.Ty.TheVariants as ty
 use Rattle.facet_desc.specs.declared.ty.UserType.TheVariants as user
+use Rattle.facet_graph.specs.declared.overlap.Span.{Span}
 use Rattle.facet_outline.specs.Discriminant.{tag_width}
 use Rattle.facet_outline.specs.Layout.{part_layout}
 use Rattle.facet_outline.specs.declared.placed_fields.PlacedField.{PlacedField}
-use Rattle.facet_outline.specs.declared.placed_fields.Span.{Span}
 use Rattle.facet_outline.specs.declared.value_kind.ValueKind.{ValueKind}
 use Rattle.facet_outline.specs.declared.value_kind.ValueKind.TheVariants as kind
 

@@ -1,5 +1,5 @@
 ghost use Rattle.std.specs.Prelude.{◌≡◌, ◌<◌, ◌≤◌, ◌^◌};
-ghost use Rattle.facet_outline.specs.Layout.{array_layout, capped, option_layout, option_offset, pair_layout, part_layout, result_layout, result_offset, rounded, scalar_layout, sized as sized_layout, up, value_offset};
+ghost use Rattle.facet_outline.specs.Layout.{array_layout, capped, next_offset, option_layout, option_offset, pair_layout, part_layout, result_layout, result_offset, rounded, scalar_layout, sized as sized_layout, up, value_offset};
 
 use facet_base::{Layout, ScalarType, ShapeLayout};
 
@@ -96,6 +96,14 @@ pub fn pair_layout(key: Layout, value: Layout) -> Layout
         value_offset(key, value) as u128 + value.size as u128,
         key.align.max(value.align),
     )
+}
+
+/// The offset in bytes of a field of a tuple behind so many bytes: the next one of its alignment.
+pub fn next_offset(behind: u128, field: Layout) -> usize
+    requires { behind < 2 ^ 127 }
+    ensures { result ≡ next_offset behind field }
+{
+    capped(up(behind, field.align))
 }
 
 /// So many bytes, rounded up to the alignment.

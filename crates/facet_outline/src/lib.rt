@@ -16,7 +16,6 @@ mod references;
 mod refers;
 #[cfg(test)]
 mod tests;
-mod tuples;
 mod value_kind;
 
 pub use bad_layout::{
@@ -26,17 +25,16 @@ pub use discriminants::{
     has_discriminant_outside, is_of_repr, push_discriminants, push_discriminants_of_kind, tag_width,
 };
 pub use layout::{
-    array_layout, option_layout, option_offset, pair_layout, part_layout, result_layout,
-    result_offset, scalar_layout, value_offset,
+    array_layout, next_offset, option_layout, option_offset, pair_layout, part_layout,
+    result_layout, result_offset, rounded, scalar_layout, value_offset,
 };
 pub use lookup::LayoutLookup;
 pub use mismatch::is_mismatched;
 pub use offered::{has_unoffered_member, offered_capabilities, offered_operations};
 pub use parts::{key_of_kind, push_inline_parts, push_parts, repetition};
 pub use placed_fields::{
-    PlacedField, Span, body_count, has_field_misaligned, has_field_outside, is_packed_struct,
-    push_body, push_placed_fields, push_spans, tag_bytes,
+    PlacedField, body_count, has_field_misaligned, has_field_outside, is_packed_struct, push_body,
+    push_placed_fields, push_spans, tag_bytes,
 };
 pub use references::{push_eager_references, push_height_references, push_references};
-pub use tuples::{push_tuple_offsets, tuple_layout};
 pub use value_kind::{ValueKind, kind_of, pointee_of, slice_element};

@@ -8,6 +8,7 @@ use crate::lookup::LayoutLookup;
 use crate::value_kind::ValueKind;
 use facet_base::ShapeId;
 use facet_desc::{Field, Ty, UserType, Variant};
+use facet_graph::Span;
 use std::alloc::AllocError;
 
 /// A field: its shape, and its offset in bytes.
@@ -15,13 +16,6 @@ use std::alloc::AllocError;
 pub struct PlacedField {
     pub shape: ShapeId,
     pub offset: usize,
-}
-
-/// So many bytes from an offset on.
-#[derive(Clone, Copy)]
-pub struct Span {
-    pub offset: usize,
-    pub size: usize,
 }
 
 /// Adds the fields of the values of a kind: those of a struct, or of all variants of an enum.

@@ -1,10 +1,11 @@
 use super::{FourBytes, are, begin, built, enum_of_two, pointer, struct_of_two};
 use crate::{
-    PlacedField, Span, ValueKind, push_body, push_discriminants_of_kind, push_inline_parts,
-    push_parts, push_placed_fields, push_spans, push_tuple_offsets, tag_bytes, tuple_layout,
+    PlacedField, ValueKind, push_body, push_discriminants_of_kind, push_inline_parts, push_parts,
+    push_placed_fields, push_spans, tag_bytes,
 };
 use facet_base::{KnownPointer, Layout, ShapeId};
 use facet_desc::Ty;
+use facet_graph::Span;
 use facet_shape::{Shape, ShapeBuilder};
 use std::alloc::{AllocError, Global};
 use std::test::Fail;
@@ -84,27 +85,5 @@ fn each_variant_has_its_fields_behind_the_tag(rt: HostRuntime) -> Result<(), Fai
     let alloc = rt.alloc();
     let counts = enum_counts(alloc, &enum_of_two(alloc, 7)?)?;
     assert!(rt; counts == (2, 1, 8, 1));
-    Ok(())
-}
-
-// The offsets of the fields of a tuple of these sizes and alignments, with its size and alignment behind them.
-fn tuple(alloc: Global, fields: &[Layout]) -> Result<[usize; 5], AllocError> {
-    let mut offsets = Vec::new(alloc);
-    push_tuple_offsets(fields, &mut offsets)?;
-    let layout = tuple_layout(fields);
-    match offsets.as_slice() {
-        [first, second, third] => Ok([*first, *second, *third, layout.size, layout.align]),
-        _ => Ok([0; 5]),
-    }
-}
-
-#[test]
-fn fields_of_a_tuple_lie_one_behind_the_other(rt: HostRuntime) -> Result<(), Fail> {
-    let fields = [
-        Layout { size: 1, align: 1 },
-        Layout { size: 4, align: 4 },
-        Layout { size: 2, align: 2 },
-    ];
-    assert!(rt; tuple(rt.alloc(), &fields)? == [0, 4, 8, 12, 4]);
     Ok(())
 }

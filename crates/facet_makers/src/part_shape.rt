@@ -1,5 +1,5 @@
 ghost use Rattle.std.specs.Prelude.{◌≡◌};
-ghost use Rattle.facet_makers.specs.Parts.{is_slice_at, part_at};
+ghost use Rattle.facet_makers.specs.PartShape.{is_slice_at, part_at};
 
 use facet_base::{Layout, ShapeId, ShapeLayout};
 use facet_leaf::Leaf;
