@@ -1,5 +1,5 @@
 mod BitSets
+mod FlagNames
 pub mod Hashes
 pub mod Lists
-mod Names
 pub mod Numerals

@@ -1,8 +1,7 @@
 -- The kinds of scalars in words.
-use Rattle.std.specs.Prelude.{ℕ, List, ◌++◌, codes}
+use Rattle.std.specs.Prelude.{ℕ, List, codes}
 use Rattle.facet_base.specs.declared.scalar_type.ScalarType.{ScalarType}
 use Rattle.facet_base.specs.declared.scalar_type.ScalarType.TheVariants as scalar
-use Rattle.facet_base.specs.declared.scalar_type.ParseError.{ParseError}
 
 -- the identifier of the type whose values are of the kind
 abbrev pub identifier_of : ScalarType → List ℕ
@@ -43,7 +42,3 @@ rank_of scalar.I32 = 13
 rank_of scalar.I64 = 14
 rank_of scalar.I128 = 15
 rank_of scalar.ISize = 16
-
--- what a refused parse prints
-abbrev pub parse_error_text : ParseError → List ℕ
-parse_error_text error = codes "failed to parse " ++ identifier_of error.kind

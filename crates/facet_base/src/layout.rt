@@ -1,6 +1,6 @@
 ghost use Rattle.std.specs.Prelude.{◌≡◌, MatchResult};
 
-use std::fmt;
+use crate::errors::UnsizedError;
 
 /// The size of a value in bytes, and the alignment: each offset of such a value is a multiple of it.
 #[derive(Clone, Copy, PartialEq, Eq, Hash, Debug)]
@@ -33,21 +33,5 @@ impl ShapeLayout {
             ShapeLayout::Sized(layout) => Ok(layout),
             ShapeLayout::Unsized => Err(UnsizedError),
         }
-    }
-}
-
-/// A type has no layout that all its values share.
-#[derive(Clone, Copy, PartialEq, Eq, PartialOrd, Ord, Hash, Debug)]
-pub struct UnsizedError;
-
-impl fmt::Display for UnsizedError {
-    ghost use Rattle.std.specs.Prelude.{Some, codes};
-
-    ghost output = { λ _. Some (codes "Not a Sized type") };
-
-    ghost styled_output = { λ _ _. Some (codes "Not a Sized type") };
-
-    fn fmt<W: fmt::Write>(&self, f: &mut fmt::Formatter<W>) -> fmt::Result {
-        f.write_str("Not a Sized type")
     }
 }

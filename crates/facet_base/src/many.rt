@@ -1,7 +1,7 @@
 ghost use Rattle.std.specs.Prelude.{◌≡◌, [], ◌∷◌, ◌++◌, ◌+◌, ◌<◌, ◌≤◌, length, slice_get, remove, Some, OnOk, OnErr};
 ghost use Rattle.std.specs.Option.{option_copied, option_copied_mut};
 ghost use Rattle.std.specs.Borrow.{sem};
-ghost use Rattle.facet_base.specs.Lending.{LendsItem};
+ghost use Rattle.facet_base.specs.ManyLends.{LendsItem};
 
 use std::alloc::{AllocError, Global};
 use std::marker::Model;
@@ -14,11 +14,11 @@ pub struct Many<T> {
 
 impl<T> Model for Many<T> {
     ghost use Rattle.std.specs.Prelude.{vec_len, vec_capacity, ◌-◌};
-    ghost use Rattle.facet_base.specs.Kept.{Kept, kept_code};
+    ghost use Rattle.facet_base.specs.Many.{ManyValue, many_code};
 
-    ghost Value = { Kept T };
+    ghost Value = { ManyValue T };
 
-    ghost coded = { kept_code T.code };
+    ghost coded = { many_code T.code };
 
     ghost view = { λ many. record { items = many.items.items; spare = vec_capacity many.items - vec_len many.items } };
 }

@@ -1,8 +1,6 @@
 ghost use Rattle.std.specs.Prelude.{◌≡◌};
 ghost use Rattle.facet_base.specs.ScalarType.{identifier_of};
 
-use std::fmt;
-
 /// The kinds of scalars. A leaf is of one of them, but of neither `Unit`, whose one value takes no memory,
 /// nor `Str`, which has no values.
 #[derive(Clone, Copy, PartialEq, Eq, PartialOrd, Ord, Hash, Debug)]
@@ -50,23 +48,5 @@ impl ScalarType {
             ScalarType::I128 => "i128",
             ScalarType::ISize => "isize",
         }
-    }
-}
-
-/// A text is not one of a scalar of this kind.
-#[derive(Debug, Drop)]
-pub struct ParseError {
-    pub kind: ScalarType,
-}
-
-impl fmt::Display for ParseError {
-    ghost use Rattle.std.specs.Prelude.{Some};
-    ghost use Rattle.facet_base.specs.ScalarType.{parse_error_text};
-
-    ghost output = { λ error. Some (parse_error_text error) };
-
-    fn fmt<W: fmt::Write>(&self, f: &mut fmt::Formatter<W>) -> fmt::Result {
-        f.write_str("failed to parse ")?;
-        f.write_str(self.kind.identifier())
     }
 }

@@ -1,6 +1,6 @@
 ghost use Rattle.std.specs.Prelude.{◌≡◌, bytes_eq, IfOk};
 ghost use Rattle.std.specs.Str.{IsUtf8};
-ghost use Rattle.facet_base.specs.Tail.{tail_of};
+ghost use Rattle.facet_base.specs.Text.{tail_of};
 
 use std::alloc::{AllocError, Global};
 use std::marker::Model;
@@ -9,7 +9,7 @@ use std::marker::Model;
 #[derive(Drop)]
 pub struct Text {
     text: String,
-    // Most unequal texts differ in this number, and so are told apart without reading their bytes.
+    // Most unequal texts differ in this number, so they are distinguished without reading their bytes.
     tail: u64,
 }
 
@@ -24,7 +24,7 @@ impl Model for Text {
     ghost view = { λ t. string_bytes t.text };
 
     ghost use Rattle.std.specs.Prelude.{◌≡◌};
-    ghost use Rattle.facet_base.specs.Tail.{tail_of};
+    ghost use Rattle.facet_base.specs.Text.{tail_of};
 
     ghost invariant = { λ t. t.tail ≡ tail_of (string_bytes t.text) };
 }

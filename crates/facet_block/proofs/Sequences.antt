@@ -3,14 +3,17 @@ use Rattle.std.proofs.Common.{◌≡◌, ℕ, ◌+◌, ◌<◌, [], ◌∷◌, �
 use Rattle.std.proofs.lemmas.List.{replicate_more}
 use Rattle.facet_block.specs.declared.block.Block.{Block}
 use Rattle.facet_block.specs.declared.block.Seq.{Seq, out-Seq, out-roll-Seq, roll-out-Seq}
-use Rattle.facet_block.specs.Block.{make_seq, filled_of, spare_of, element_size_of, empty_block, with_filled, with_new_spare}
+use Rattle.facet_block.specs.Block.{empty_block}
+use Rattle.facet_block.specs.Seq.{make_seq, filled_of, spare_of, element_size_of, with_filled, with_new_spare}
 use Rattle.facet_base.proofs.Lists.{some_there}
-use Rattle.facet_block.proofs.Elements.{changed_to, get_changed_to, set_changed_to, changed_to_all}
+use Rattle.facet_block.proofs.ChangedLists.{changed_to, get_changed_to, set_changed_to, changed_to_all}
 
 module _ {X : Type 0} (s : Seq X) where
+  -- no new block: the sequence itself
   pub with_new_spare_0 : with_new_spare s 0 ≡ s
   with_new_spare_0 = ap (λ bs. make_seq (element_size_of s) (filled_of s) bs) (append-nil (spare_of s)) ∙ roll-out-Seq X s
 
+  -- one new block more
   pub with_new_spare_more : (t : Seq X) (n : ℕ) → t ≡ with_new_spare s n → with_new_spare t 1 ≡ with_new_spare s (n + 1)
   with_new_spare_more t n is =
       let opened = ap (out-Seq X) is ∙ out-roll-Seq X _ in
@@ -29,6 +32,7 @@ module _ {X : Type 0} (f : Block X → Block X) (s : Seq X) where
   abbrev pub changed_blocks : ℕ → Seq X
   changed_blocks i = with_filled s (changed_to f (filled_of s) i)
 
+  -- no block is changed: the sequence itself
   pub changed_blocks_0 : changed_blocks 0 ≡ s
   changed_blocks_0 = roll-out-Seq X s
 
@@ -50,5 +54,6 @@ module _ {X : Type 0} (f : Block X → Block X) (s : Seq X) where
   pub block_there : (t : Seq X) (i : ℕ) → t ≡ changed_blocks i → i < length (filled_of s) → None ≡ slice_get (filled_of t) i → ⊥
   block_there t i is below none = some_there (filled_of s) i below (none ∙ next_block t i is)
 
+  -- all blocks are changed
   pub changed_blocks_all : changed_blocks (length (filled_of s)) ≡ with_filled s (map f (filled_of s))
   changed_blocks_all = ap (λ bs. make_seq (element_size_of s) bs (spare_of s)) (changed_to_all f (filled_of s))

@@ -1,12 +1,12 @@
--- Blocks and sequences as data: a block is a finite map from offsets in bytes to items. Layers above read them by
--- these words alone, and define by cases on an item with the patterns `Leaf x`, `Tag n` and `Sequence s` of
+-- Blocks as data: a block is a finite map from offsets in bytes to items. Layers above read blocks by these words
+-- alone, and define by cases on an item with the patterns `Leaf x`, `Tag n` and `Sequence s` of
 -- `declared.block.Item`, ended by `_`.
-use Rattle.std.specs.Prelude.{ℕ, ◌+◌, ◌-◌, List, ◌++◌, Option, None, Some, length, replicate, slice_get, slice_set, take, drop, unwrap_or}
+use Rattle.std.specs.Prelude.{ℕ, ◌+◌, List, ◌++◌, Option, None, Some, length, replicate, slice_get, slice_set, take, drop, unwrap_or}
 use Rattle.facet_block.specs.declared.block.Item.{Item, Leaf, Tag, Sequence}
 use Rattle.facet_block.specs.declared.block.ItemKind.{ItemKind}
 use Rattle.facet_block.specs.declared.block.ItemKind.TheVariants as kind
 use Rattle.facet_block.specs.declared.block.Block.{Block}
-use Rattle.facet_block.specs.declared.block.Seq.{Seq, out-Seq, roll-Seq}
+use Rattle.facet_block.specs.declared.block.Seq.{Seq}
 
 -- what lies at each offset of a block: an item or nothing
 abbrev pub items_of : {X : Type 0} → Block X → List (Option (Item X))
@@ -50,41 +50,6 @@ moved_in b at source from size = with_items b at (drop from (items_of source)) s
 -- the block once what lay in so many bytes from an offset on was moved out
 abbrev pub moved_out : {X : Type 0} → Block X → ℕ → ℕ → Block X
 moved_out b from size = with_items b from (replicate size None) size
-
--- the filled blocks of a sequence, in order
-abbrev pub filled_of : {X : Type 0} → Seq X → List (Block X)
-filled_of {X} s = (out-Seq X s).blocks.0
-
--- the spare blocks of a sequence, in order
-abbrev pub spare_of : {X : Type 0} → Seq X → List (Block X)
-spare_of {X} s = (out-Seq X s).blocks.1
-
--- the size in bytes of the blocks that a sequence makes
-abbrev pub element_size_of : {X : Type 0} → Seq X → ℕ
-element_size_of {X} s = (out-Seq X s).element_size
-
--- the sequence of this size of elements, with these filled and these spare blocks
-abbrev pub make_seq : {X : Type 0} → ℕ → List (Block X) → List (Block X) → Seq X
-make_seq {X} n fs ss = roll-Seq X (record { element_size = n; blocks = (fs, ss) })
-
--- the sequence with other filled blocks
-abbrev pub with_filled : {X : Type 0} → Seq X → List (Block X) → Seq X
-with_filled s fs = make_seq (element_size_of s) fs (spare_of s)
-
--- the sequence with other spare blocks
-abbrev pub with_spare : {X : Type 0} → Seq X → List (Block X) → Seq X
-with_spare s ss = make_seq (element_size_of s) (filled_of s) ss
-
--- the sequence with so many new blocks behind its spare ones
-abbrev pub with_new_spare : {X : Type 0} → Seq X → ℕ → Seq X
-with_new_spare s count = with_spare s (spare_of s ++ replicate count (empty_block (element_size_of s)))
-
--- the list with its last element at index i, and the others in their order
-abbrev pub last_moved_to : {A : Type 0} → ℕ → List A → List A
-last_moved_to i xs =
-    let others = take (length xs - 1) xs in
-    let last = drop (length xs - 1) xs in
-    take i others ++ last ++ drop i others
 
 -- the leaf, where there is one
 abbrev pub leaf_of : {X : Type 0} → Option (Item X) → Option X

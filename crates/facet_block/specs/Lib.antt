@@ -1,9 +1,10 @@
 pub mod formers
 pub mod Block
-pub mod BlockLends
-pub mod LeafLog
-pub mod PlainLends
-pub mod PtrLends
+pub mod BlockBorrows
+pub mod DropLog
+pub mod ListVec
+pub mod PtrMut
+pub mod PtrUninit
+pub mod Seq
 pub mod Span
-pub mod SplitLends
-pub mod Uninit
+pub mod Split

@@ -1,2 +1,2 @@
-pub mod plain_vec
+pub mod list_vec
 pub mod split

@@ -1,10 +1,10 @@
 ghost use Rattle.std.specs.Prelude.{◌≡◌, ◌↔◌, ◌+◌, ◌<◌, ◌≤◌, Some, None, IfOk, IsTrue};
 ghost use Rattle.std.specs.Borrow.{sem};
 ghost use Rattle.facet_block.specs.Block.{size_of, item_at, item_kind, item_kind_at, empty_block, with_item, moved_in, moved_out};
-ghost use Rattle.facet_block.specs.BlockLends.{LendsLeaf, LendsSequence, LendsLeafAt, LendsSequenceAt};
+ghost use Rattle.facet_block.specs.BlockBorrows.{LendsLeaf, LendsSequence, LendsLeafAt, LendsSequenceAt};
 ghost use Rattle.facet_block.specs.Span.{span, IsEmptyIn};
 
-use crate::plain_vec::PlainVec;
+use crate::list_vec::ListVec;
 use crate::split::Split;
 use facet_base::Layout;
 use std::alloc::{AllocError, Global};
@@ -34,7 +34,7 @@ pub enum ItemKind {
 #[cycle(blocks)]
 #[derive(Drop)]
 pub struct Block<L> {
-    items: PlainVec<Option<Item<L>>>,
+    items: ListVec<Option<Item<L>>>,
 }
 
 /// Blocks of `elem_size` bytes: the filled ones, in order, and behind them the spare ones.
@@ -76,14 +76,14 @@ impl<L: Drop> Block<L> {
     pub fn new(alloc: Global, size: usize) -> Result<Block<L>, AllocError>
         ensures { IfOk result (λ block. block ≡ empty_block size) }
     {
-        let items = PlainVec::nones(alloc, size)?;
+        let items = ListVec::nones(alloc, size)?;
         Ok(Block { items })
     }
 
     /// Puts `item` at the offset, and returns what was there.
     pub(crate) fn exchange(&mut self, at: usize, item: Option<Item<L>>) -> Option<Item<L>>
         requires { at < size_of self.old }
-        ensures gives { result ≡ item_at self.old at }
+        ensures value { result ≡ item_at self.old at }
         ensures block { self.new ≡ with_item self.old at item }
     {
         self.items.replace(at, item)
@@ -96,6 +96,7 @@ impl<L: Drop> Block<L> {
         ensures items { self.new ≡ moved_in self.old at source.old from size }
         ensures source { source.new ≡ moved_out source.old from size }
     {
+        // proof: the blocks' sizes are usizes, so the sums below can't overflow
         let _size = self.size();
         let _source_size = source.size();
         for i in 0..size {

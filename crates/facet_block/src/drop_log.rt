@@ -12,7 +12,7 @@ pub struct DropLog<L> {
 }
 
 impl<L> Model for DropLog<L> {
-    ghost use Rattle.facet_block.specs.LeafLog.{LeafLog, log_code, log_of};
+    ghost use Rattle.facet_block.specs.DropLog.{LeafLog, log_code, log_of};
 
     ghost Value = { LeafLog L };
 

@@ -10,7 +10,7 @@ use crate::ptr_uninit::PtrUninit;
 pub fn put_and_read<L: Drop>(block: &mut Block<L>, at: usize, leaf: L) -> L
     requires below { at < size_of block.old }
     requires empty { item_at block.old at ≡ None }
-    ensures gives { result ≡ leaf }
+    ensures value { result ≡ leaf }
     ensures same { block.new ≡ block.old }
 {
     PtrUninit::new(block, at).put(leaf).read()

@@ -4,8 +4,9 @@
 
 mod block;
 mod drop_log;
-mod laws;
-mod plain_vec;
+/// Laws: theorems over the definitions, each the contract of a function.
+pub mod laws;
+mod list_vec;
 mod ptr_const;
 mod ptr_mut;
 mod ptr_uninit;
@@ -19,7 +20,6 @@ pub use drop_log::DropLog;
 pub use facet_leaf::{
     Conversion, Fnv128, HashProxy, HashSink, Leaf, LeafHook, NoRoom, Recorder, Scalar,
 };
-pub use laws::{one_item_is_changed, put_and_read, ranges_are_moved, what_is_apart_is_kept};
 pub use ptr_const::PtrConst;
 pub use ptr_mut::PtrMut;
 pub use ptr_uninit::{Never, PtrUninit};

@@ -56,6 +56,7 @@ impl<'a, L> PtrConst<'a, L> {
         ensures same_block { result.block.now ≡ self.entry.block.now }
         ensures offset { result.offset ≡ self.entry.offset + n }
     {
+        // proof: the block's size is a usize, so the sum below can't overflow
         let _size = self.block.size();
         PtrConst {
             block: self.block,

@@ -1,9 +1,9 @@
 ghost use Rattle.std.specs.Prelude.{◌≡◌, [], ◌∷◌, ◌++◌, ◌+◌, ◌<◌, ◌≤◌, Some, None};
 ghost use Rattle.std.specs.Borrow.{sem};
 ghost use Rattle.facet_block.specs.Block.{size_of, item_at, item_kind, item_kind_at, with_item};
-ghost use Rattle.facet_block.specs.BlockLends.{LendsSequenceAt};
-ghost use Rattle.facet_block.specs.PtrLends.{with_item_past, LendsPointedBlock, LendsPointedLeaf, LendsPointedSequence, LendsSequencePast};
-ghost use Rattle.facet_block.specs.Uninit.{place_of};
+ghost use Rattle.facet_block.specs.BlockBorrows.{LendsSequenceAt};
+ghost use Rattle.facet_block.specs.PtrMut.{with_item_past, LendsPointedBlock, LendsPointedLeaf, LendsPointedSequence, LendsSequencePast};
+ghost use Rattle.facet_block.specs.PtrUninit.{place_of};
 ghost use Rattle.facet_block.specs.declared.block.Item.{Leaf, Tag, Sequence};
 ghost use Rattle.facet_block.specs.declared.block.ItemKind.{ItemKind};
 
@@ -43,6 +43,7 @@ impl<'a, L> PtrMut<'a, L> {
         ensures offset { result.offset ≡ self.entry.offset + n }
     {
         let PtrMut { block, offset } = self;
+        // proof: the block's size is a usize, so the sum below can't overflow
         let _size = block.size();
         PtrMut {
             block,
@@ -85,6 +86,7 @@ impl<'a, L> PtrMut<'a, L> {
         ensures same_block { result.block.now ≡ self.old.block.now }
         ensures offset { result.offset ≡ self.old.offset + n }
     {
+        // proof: the block's size is a usize, so the sum below can't overflow
         let _size = self.block.size();
         let offset = self.offset + n;
         let block = &mut *self.block;
@@ -142,6 +144,7 @@ impl<'a, L> PtrMut<'a, L> {
         ensures* lends { sem 𝓛 (LendsSequencePast L.row self.entry n result) }
         ensures value { item_at self.old.block.now (self.old.offset + n) ≡ Some (Sequence result.now) }
     {
+        // proof: the block's size is a usize, so the sum below can't overflow
         let _size = self.block.size();
         let at = self.offset + n;
         self.block.sequence_mut(at)
@@ -162,7 +165,7 @@ impl<'a, L: Drop> PtrMut<'a, L> {
     // Takes the item out of the place, and puts another or none there.
     fn exchange(self, item: Option<Item<L>>) -> Option<Item<L>>
         requires { self.offset < size_of self.block.now }
-        ensures gives { result ≡ item_at self.entry.block.now self.entry.offset }
+        ensures value { result ≡ item_at self.entry.block.now self.entry.offset }
         ensures block { self.exit.0.now ≡ with_item self.entry.block.now self.entry.offset item }
     {
         let PtrMut { block, offset } = self;
@@ -172,7 +175,7 @@ impl<'a, L: Drop> PtrMut<'a, L> {
     /// Takes the leaf out of the place, which is empty afterwards.
     pub fn read(self) -> L
         requires { item_kind_at self.block.now self.offset ≡ ItemKind.Leaf }
-        ensures gives { item_at self.entry.block.now self.entry.offset ≡ Some (Leaf result) }
+        ensures value { item_at self.entry.block.now self.entry.offset ≡ Some (Leaf result) }
         ensures empties { self.exit.0.now ≡ with_item self.entry.block.now self.entry.offset None }
     {
         leaf_in(self.exchange(None))
@@ -181,7 +184,7 @@ impl<'a, L: Drop> PtrMut<'a, L> {
     /// Takes the tag out of the place, which is empty afterwards.
     pub fn take_tag(self) -> u32
         requires { item_kind_at self.block.now self.offset ≡ ItemKind.Tag }
-        ensures gives { item_at self.entry.block.now self.entry.offset ≡ Some (Tag result) }
+        ensures value { item_at self.entry.block.now self.entry.offset ≡ Some (Tag result) }
         ensures empties { self.exit.0.now ≡ with_item self.entry.block.now self.entry.offset None }
     {
         match self.exchange(None) {
@@ -193,7 +196,7 @@ impl<'a, L: Drop> PtrMut<'a, L> {
     /// Takes the sequence out of the place, which is empty afterwards.
     pub fn take_seq(self) -> Seq<L>
         requires { item_kind_at self.block.now self.offset ≡ ItemKind.Sequence }
-        ensures gives { item_at self.entry.block.now self.entry.offset ≡ Some (Sequence result) }
+        ensures value { item_at self.entry.block.now self.entry.offset ≡ Some (Sequence result) }
         ensures empties { self.exit.0.now ≡ with_item self.entry.block.now self.entry.offset None }
     {
         match self.exchange(None) {
@@ -205,7 +208,7 @@ impl<'a, L: Drop> PtrMut<'a, L> {
     /// Puts the leaf at the place, and returns the one that was there.
     pub fn replace(self, leaf: L) -> L
         requires { item_kind_at self.block.now self.offset ≡ ItemKind.Leaf }
-        ensures gives { item_at self.entry.block.now self.entry.offset ≡ Some (Leaf result) }
+        ensures value { item_at self.entry.block.now self.entry.offset ≡ Some (Leaf result) }
         ensures puts { self.exit.0.now ≡ with_item self.entry.block.now self.entry.offset (Some (Leaf leaf)) }
     {
         leaf_in(self.exchange(Some(Item::Leaf(leaf))))
@@ -231,6 +234,7 @@ impl<'a, L: Drop> PtrMut<'a, L> {
         ensures same_size { size_of self.new.block.now ≡ size_of self.old.block.now }
         ensures puts { self.new ≡ with_item_past self.old n item }
     {
+        // proof: the block's size is a usize, so the sum below can't overflow
         let _size = self.block.size();
         let at = self.offset + n;
         self.block.exchange(at, Some(item));

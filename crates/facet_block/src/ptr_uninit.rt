@@ -1,8 +1,8 @@
 ghost use Rattle.std.specs.Prelude.{◌≡◌, ◌+◌, ◌<◌, ◌≤◌, Some, None};
 ghost use Rattle.facet_block.specs.Block.{size_of, item_at, with_item, moved_in, moved_out};
-ghost use Rattle.facet_block.specs.PtrLends.{with_item_past};
+ghost use Rattle.facet_block.specs.PtrMut.{with_item_past};
 ghost use Rattle.facet_block.specs.Span.{span, IsVacant};
-ghost use Rattle.facet_block.specs.Uninit.{place_of};
+ghost use Rattle.facet_block.specs.PtrUninit.{place_of};
 ghost use Rattle.facet_block.specs.declared.block.Item.{Leaf, Tag, Sequence};
 
 use crate::block::{Block, Item, Seq};

@@ -1,8 +1,8 @@
 ghost use Rattle.std.specs.Prelude.{◌≡◌, ℕ, [], ◌++◌, ◌+◌, ◌-◌, ◌<◌, ◌≤◌, length, take, drop, slice_get, swap, Some, OnOk, OnErr};
 ghost use Rattle.std.specs.Option.{option_copied, option_copied_mut};
 ghost use Rattle.std.specs.Borrow.{sem};
-ghost use Rattle.facet_block.specs.Block.{filled_of, spare_of, element_size_of, make_seq, with_filled, with_new_spare, last_moved_to};
-ghost use Rattle.facet_block.specs.BlockLends.{LendsFilled, LendsSpare};
+ghost use Rattle.facet_block.specs.Seq.{filled_of, spare_of, element_size_of, make_seq, with_filled, with_new_spare, last_moved_to};
+ghost use Rattle.facet_block.specs.BlockBorrows.{LendsFilled, LendsSpare};
 
 use crate::block::{Block, Seq};
 use crate::split::Split;

@@ -1,8 +1,8 @@
 ghost use Rattle.std.specs.Prelude.{◌≡◌, [], ◌∷◌, ◌++◌, ◌+◌, ◌<◌, ◌≤◌, length, take, drop, slice_get, swap, Some, OnOk, OnErr};
 ghost use Rattle.std.specs.Option.{option_copied};
 ghost use Rattle.std.specs.Borrow.{sem};
-ghost use Rattle.facet_block.specs.Block.{last_moved_to};
-ghost use Rattle.facet_block.specs.SplitLends.{LendsFront, LendsBack};
+ghost use Rattle.facet_block.specs.Seq.{last_moved_to};
+ghost use Rattle.facet_block.specs.Split.{LendsFront, LendsBack};
 
 use std::alloc::{AllocError, Global};
 use std::marker::Model;
@@ -73,6 +73,7 @@ impl<T> Split<T> {
         requires { j < length self.now.1 }
         ensures { slice_get self.now.1 j ≡ Some result.now }
     {
+        // proof: the number of items is a usize, so the sum below can't overflow
         let _count = self.items.len();
         &self.items[self.front + j]
     }
@@ -92,6 +93,7 @@ impl<T> Split<T> {
         ensures* lends { sem 𝓛 (LendsBack T.row self.entry j result) }
         ensures value { slice_get self.old.1 j ≡ Some result.now }
     {
+        // proof: the number of items is a usize, so the sum below can't overflow
         let _count = self.items.len();
         let i = self.front + j;
         &mut self.items[i]

@@ -1,6 +1,7 @@
+use crate::laws::put_and_read;
 use crate::{
     Block, DropLog, ItemKind, PtrConst, PtrMut, PtrUninit, Seq, alloc_for_layout,
-    dealloc_for_layout, put_and_read,
+    dealloc_for_layout,
 };
 use facet_base::Layout;
 use std::test::Fail;
@@ -33,7 +34,7 @@ fn new_blocks_of_each_size_are_empty(rt: HostRuntime) -> Result<(), Fail> {
 }
 
 #[test]
-fn a_block_of_a_layout_has_its_size_and_is_given_back_empty(rt: HostRuntime) -> Result<(), Fail> {
+fn a_block_of_a_layout_has_its_size_and_is_freed_empty(rt: HostRuntime) -> Result<(), Fail> {
     let layout = Layout { size: 24, align: 8 };
     let block: Block<u32> = alloc_for_layout(rt.alloc(), layout)?;
     assert_eq!(rt; block.size(), 24);
@@ -151,7 +152,7 @@ fn a_sequence_is_cut_and_grown_again(rt: HostRuntime) -> Result<(), Fail> {
 }
 
 #[test]
-fn filled_blocks_change_their_places(rt: HostRuntime) -> Result<(), Fail> {
+fn filled_blocks_are_reordered(rt: HostRuntime) -> Result<(), Fail> {
     let mut sequence = Seq::new(rt.alloc(), 1);
     sequence.reserve(4)?;
     assert!(rt;

@@ -4,7 +4,8 @@ use Rattle.facet_block.specs.declared.block.Block.{Block}
 use Rattle.facet_block.specs.declared.block.Item.{Item, Tag, Sequence}
 use Rattle.facet_block.specs.declared.block.ItemKind.TheVariants as kind
 use Rattle.facet_block.specs.declared.block.Seq.{Seq}
-use Rattle.facet_block.specs.Block.{item_at, item_kind_at, with_item, filled_of, with_filled}
+use Rattle.facet_block.specs.Block.{item_at, item_kind_at, with_item}
+use Rattle.facet_block.specs.Seq.{filled_of, with_filled}
 
 -- the block with this tag at an offset
 abbrev pub with_tag : {X : Type 0} → ℕ → ℕ → Block X → Block X

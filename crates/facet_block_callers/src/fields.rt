@@ -1,6 +1,7 @@
 ghost use Rattle.std.specs.Prelude.{◌≡◌, ◌+◌, ◌<◌, [], ◌++◌, Some, None};
-ghost use Rattle.facet_block.specs.Block.{size_of, item_at, item_kind_at, with_item, filled_of, spare_of, element_size_of, make_seq};
-ghost use Rattle.facet_block.specs.PtrLends.{with_item_past};
+ghost use Rattle.facet_block.specs.Block.{size_of, item_at, item_kind_at, with_item};
+ghost use Rattle.facet_block.specs.Seq.{filled_of, spare_of, element_size_of, make_seq};
+ghost use Rattle.facet_block.specs.PtrMut.{with_item_past};
 ghost use Rattle.facet_block.specs.declared.block.Item.{Leaf, Tag, Sequence};
 ghost use Rattle.facet_block.specs.declared.block.ItemKind.{ItemKind};
 ghost use Rattle.facet_block.specs.declared.block.Seq.{Seq};
@@ -48,7 +49,7 @@ pub fn fill_two_assumed<L: Drop>(block: &mut Block<L>, at: usize, leaf: L, tag: 
     requires below { at + 4 < size_of block.old }
     requires empty { item_at block.old at ≡ None }
     requires empty_next { item_at block.old (at + 4) ≡ None }
-    ensures gives { result ≡ tag }
+    ensures value { result ≡ tag }
     ensures fills { block.new ≡ with_item (with_item block.old at (Some (Leaf leaf))) (at + 4) (Some (Tag tag)) }
 {
     let mut place = PtrUninit::new(block, at);
@@ -62,7 +63,7 @@ pub fn fill_and_read<L: Drop + Copy>(block: &mut Block<L>, at: usize, leaf: L, t
     requires below { at + 4 < size_of block.old }
     requires empty { item_at block.old at ≡ None }
     requires empty_next { item_at block.old (at + 4) ≡ None }
-    ensures gives { result ≡ (leaf, tag) }
+    ensures value { result ≡ (leaf, tag) }
     ensures fills { block.new ≡ with_item (with_item block.old at (Some (Leaf leaf))) (at + 4) (Some (Tag tag)) }
 {
     let mut place = PtrMut::new(block, at);
@@ -74,12 +75,12 @@ pub fn fill_and_read<L: Drop + Copy>(block: &mut Block<L>, at: usize, leaf: L, t
 }
 
 /// Fills both, and takes both out again: the block is as it was.
-#[tactic(auto, using(facet_block::proofs::Steps::with_item_back, facet_block::proofs::Ranges::item_elsewhere))]
+#[tactic(auto, using(facet_block::proofs::ItemChanges::with_item_back, facet_block::proofs::Ranges::item_elsewhere))]
 pub fn fill_and_take<L: Drop>(block: &mut Block<L>, at: usize, leaf: L, tag: u32) -> (L, u32)
     requires below { at + 4 < size_of block.old }
     requires empty { item_at block.old at ≡ None }
     requires empty_next { item_at block.old (at + 4) ≡ None }
-    ensures gives { result ≡ (leaf, tag) }
+    ensures value { result ≡ (leaf, tag) }
     ensures same { block.new ≡ block.old }
 {
     let mut place = PtrMut::new(block, at);
@@ -118,7 +119,7 @@ pub fn fill_nested<L: Drop>(block: &mut Block<L>, at: usize, leaf: L, tag: u32)
 pub fn replace_field<L: Drop>(block: &mut Block<L>, at: usize, n: usize, leaf: L) -> L
     requires below { at + n < size_of block.old }
     requires leaf { item_kind_at block.old (at + n) ≡ ItemKind.Leaf }
-    ensures gives { item_at block.old (at + n) ≡ Some (Leaf result) }
+    ensures value { item_at block.old (at + n) ≡ Some (Leaf result) }
     ensures puts { block.new ≡ with_item block.old (at + n) (Some (Leaf leaf)) }
 {
     let mut place = PtrMut::new(block, at);

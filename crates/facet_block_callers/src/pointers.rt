@@ -1,5 +1,6 @@
 ghost use Rattle.std.specs.Prelude.{◌≡◌, ◌↔◌, ◌+◌, ◌-◌, ◌<◌, ◌≤◌, length, slice_get, Some, None, IsTrue};
-ghost use Rattle.facet_block.specs.Block.{size_of, item_at, item_kind_at, with_item, moved_in, moved_out, spare_of, element_size_of};
+ghost use Rattle.facet_block.specs.Block.{size_of, item_at, item_kind_at, with_item, moved_in, moved_out};
+ghost use Rattle.facet_block.specs.Seq.{spare_of, element_size_of};
 ghost use Rattle.facet_block.specs.Span.{span, IsVacant, IsEmptyIn};
 ghost use Rattle.facet_block.specs.declared.block.Block.{Block};
 ghost use Rattle.facet_block.specs.declared.block.Item.{Leaf, Tag};
@@ -11,7 +12,7 @@ use facet_block::{Block, PtrConst, PtrMut, PtrUninit, Seq};
 pub fn put_and_get<L: Drop + Copy>(block: &mut Block<L>, at: usize, leaf: L) -> L
     requires below { at < size_of block.old }
     requires empty { item_at block.old at ≡ None }
-    ensures gives { result ≡ leaf }
+    ensures value { result ≡ leaf }
     ensures holds { block.new ≡ with_item block.old at (Some (Leaf leaf)) }
 {
     let place = PtrUninit::new(block, at).put(leaf);
@@ -22,7 +23,7 @@ pub fn put_and_get<L: Drop + Copy>(block: &mut Block<L>, at: usize, leaf: L) -> 
 pub fn put_further<L: Drop>(block: &mut Block<L>, at: usize, n: usize, leaf: L) -> usize
     requires below { at + n < size_of block.old }
     requires empty { item_at block.old (at + n) ≡ None }
-    ensures gives { result ≡ at + n }
+    ensures value { result ≡ at + n }
     ensures puts { block.new ≡ with_item block.old (at + n) (Some (Leaf leaf)) }
 {
     let place = PtrUninit::new(block, at).field_uninit(n);
@@ -36,7 +37,7 @@ pub fn take_further<L: Drop>(block: &mut Block<L>, at: usize, n: usize) -> (usiz
     requires below { at + n < size_of block.old }
     requires leaf { item_kind_at block.old (at + n) ≡ ItemKind.Leaf }
     ensures offset { result.0 ≡ at + n }
-    ensures gives { item_at block.old (at + n) ≡ Some (Leaf result.1) }
+    ensures value { item_at block.old (at + n) ≡ Some (Leaf result.1) }
     ensures empties { block.new ≡ with_item block.old (at + n) None }
 {
     let place = PtrUninit::new(block, at).field_init(n);
@@ -45,7 +46,7 @@ pub fn take_further<L: Drop>(block: &mut Block<L>, at: usize, n: usize) -> (usiz
 }
 
 /// Puts another tag at a place, by a borrow of one pointer and then by the pointer itself.
-#[tactic(auto, using(facet_block::proofs::Steps::with_item_twice))]
+#[tactic(auto, using(facet_block::proofs::ItemChanges::with_item_twice))]
 pub fn retag_by_borrows<L: Drop>(block: &mut Block<L>, at: usize, tag: u32)
     requires { item_kind_at block.old at ≡ ItemKind.Tag }
     ensures { block.new ≡ with_item block.old at (Some (Tag tag)) }

@@ -1,5 +1,6 @@
 ghost use Rattle.std.specs.Prelude.{◌≡◌, Some, map};
-ghost use Rattle.facet_block.specs.Block.{item_at, item_kind_at, with_item, filled_of, with_filled};
+ghost use Rattle.facet_block.specs.Block.{item_at, item_kind_at, with_item};
+ghost use Rattle.facet_block.specs.Seq.{filled_of, with_filled};
 ghost use Rattle.facet_block.specs.declared.block.Item.{Sequence};
 ghost use Rattle.facet_block.specs.declared.block.ItemKind.{ItemKind};
 ghost use Rattle.facet_block.specs.declared.block.Seq.{Seq};
@@ -8,7 +9,7 @@ ghost use Rattle.facet_block_callers.specs.Retagged.{with_tag, with_tags, AreTag
 use facet_block::{Block, ItemKind, PtrMut, PtrUninit, Seq};
 
 /// Puts another tag at the offset.
-#[tactic(auto, using(facet_block::proofs::Steps::with_item_twice))]
+#[tactic(auto, using(facet_block::proofs::ItemChanges::with_item_twice))]
 pub fn retag<L: Drop>(block: &mut Block<L>, at: usize, tag: u32)
     requires { item_kind_at block.old at ≡ ItemKind.Tag }
     ensures { block.new ≡ with_tag at tag block.old }

@@ -1,3 +1,4 @@
-pub mod Empty
-pub mod Erased
+pub mod EmptyRecords
 pub mod PartialRecord
+pub mod TypeOps
+pub mod VTableErased

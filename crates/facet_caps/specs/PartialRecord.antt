@@ -1,6 +1,6 @@
 -- A record while it is built.
 use Rattle.std.specs.Prelude.{ℕ, Bool, List, Option, Some, None, Result, Ok, Err, not, position}
-use Rattle.facet_base.specs.declared.missing_field.MissingField.{MissingField}
+use Rattle.facet_base.specs.declared.errors.MissingField.{MissingField}
 
 -- the members so far, and for each required one, in order, whether it was given
 pub record PartialRecord (R : Type 0) : Type 0 where

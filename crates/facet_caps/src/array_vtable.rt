@@ -1,5 +1,5 @@
 ghost use Rattle.std.specs.Prelude.{◌≡◌, true, false, replicate, slice_set};
-ghost use Rattle.facet_caps.specs.Empty.{empty_array};
+ghost use Rattle.facet_caps.specs.EmptyRecords.{empty_array};
 ghost use Rattle.facet_caps.specs.PartialRecord.{built};
 
 use crate::partial_record::unless_missing;
@@ -46,7 +46,7 @@ impl Model for ArrayVTableBuilder {
 }
 
 impl ArrayVTableBuilder {
-    /// Sets whether all elements can be reached for reading.
+    /// Sets whether all elements can be accessed for reading.
     pub fn as_ptr(mut self, value: bool) -> Self
         ensures members { result.members ≡ record (self.members) { as_ptr = value } }
         ensures given { result.given ≡ slice_set self.given 0 true }
@@ -56,7 +56,7 @@ impl ArrayVTableBuilder {
         self
     }
 
-    /// Sets whether all elements can be reached for writing.
+    /// Sets whether all elements can be accessed for writing.
     pub fn as_mut_ptr(mut self, value: bool) -> Self
         ensures members { result.members ≡ record (self.members) { as_mut_ptr = value } }
         ensures given { result.given ≡ slice_set self.given 1 true }

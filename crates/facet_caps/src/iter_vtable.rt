@@ -1,5 +1,5 @@
 ghost use Rattle.std.specs.Prelude.{◌≡◌};
-ghost use Rattle.facet_caps.specs.Empty.{empty_iterator};
+ghost use Rattle.facet_caps.specs.EmptyRecords.{empty_iterator};
 
 /// The operations of an iterator.
 #[derive(Clone, Copy)]

@@ -1,5 +1,5 @@
 ghost use Rattle.std.specs.Prelude.{◌≡◌, true, false, replicate, slice_set};
-ghost use Rattle.facet_caps.specs.Empty.{empty_list_ops};
+ghost use Rattle.facet_caps.specs.EmptyRecords.{empty_list_ops};
 ghost use Rattle.facet_caps.specs.PartialRecord.{built};
 
 use crate::iter_vtable::IterVTable;
@@ -115,7 +115,7 @@ impl ListTypeOpsBuilder {
         self
     }
 
-    /// Sets whether the elements can be reached for writing, by a pointer of their type.
+    /// Sets whether the elements can be accessed for writing, by a pointer of their type.
     pub fn as_mut_ptr_typed(mut self, value: bool) -> Self
         ensures members { result.members ≡ record (self.members) { as_mut_ptr_typed = value } }
         ensures given { result.given ≡ self.given }

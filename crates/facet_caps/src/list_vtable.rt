@@ -1,5 +1,5 @@
 ghost use Rattle.std.specs.Prelude.{◌≡◌, true, false, replicate, slice_set};
-ghost use Rattle.facet_caps.specs.Empty.{empty_list};
+ghost use Rattle.facet_caps.specs.EmptyRecords.{empty_list};
 ghost use Rattle.facet_caps.specs.PartialRecord.{built};
 
 use crate::partial_record::unless_missing;
@@ -64,7 +64,7 @@ impl ListVTableBuilder {
         self
     }
 
-    /// Sets whether an element can be reached for reading.
+    /// Sets whether an element can be accessed for reading.
     pub fn get(mut self, value: bool) -> Self
         ensures members { result.members ≡ record (self.members) { get = value } }
         ensures given { result.given ≡ slice_set self.given 1 true }
@@ -74,7 +74,7 @@ impl ListVTableBuilder {
         self
     }
 
-    /// Sets whether an element can be reached for writing.
+    /// Sets whether an element can be accessed for writing.
     pub fn get_mut(mut self, value: bool) -> Self
         ensures members { result.members ≡ record (self.members) { get_mut = value } }
         ensures given { result.given ≡ self.given }
@@ -83,7 +83,7 @@ impl ListVTableBuilder {
         self
     }
 
-    /// Sets whether all elements can be reached for reading at once.
+    /// Sets whether all elements can be accessed for reading at once.
     pub fn as_ptr(mut self, value: bool) -> Self
         ensures members { result.members ≡ record (self.members) { as_ptr = value } }
         ensures given { result.given ≡ self.given }
@@ -92,7 +92,7 @@ impl ListVTableBuilder {
         self
     }
 
-    /// Sets whether all elements can be reached for writing at once.
+    /// Sets whether all elements can be accessed for writing at once.
     pub fn as_mut_ptr(mut self, value: bool) -> Self
         ensures members { result.members ≡ record (self.members) { as_mut_ptr = value } }
         ensures given { result.given ≡ self.given }

@@ -1,5 +1,5 @@
 ghost use Rattle.std.specs.Prelude.{◌≡◌, true, false, replicate, slice_set};
-ghost use Rattle.facet_caps.specs.Empty.{empty_map};
+ghost use Rattle.facet_caps.specs.EmptyRecords.{empty_map};
 ghost use Rattle.facet_caps.specs.PartialRecord.{built};
 
 use crate::iter_vtable::IterVTable;
@@ -105,7 +105,7 @@ impl MapVTableBuilder {
         self
     }
 
-    /// Sets whether the value of a key can be reached.
+    /// Sets whether the value of a key can be accessed.
     pub fn get_value_ptr(mut self, value: bool) -> Self
         ensures members { result.members ≡ record (self.members) { get_value_ptr = value } }
         ensures given { result.given ≡ slice_set self.given 4 true }

@@ -1,5 +1,5 @@
 ghost use Rattle.std.specs.Prelude.{◌≡◌, true, false, replicate, slice_set};
-ghost use Rattle.facet_caps.specs.Empty.{empty_option};
+ghost use Rattle.facet_caps.specs.EmptyRecords.{empty_option};
 ghost use Rattle.facet_caps.specs.PartialRecord.{built};
 
 use crate::partial_record::unless_missing;
@@ -63,7 +63,7 @@ impl OptionVTableBuilder {
         self
     }
 
-    /// Sets whether the value can be reached.
+    /// Sets whether the value can be accessed.
     pub fn get_value(mut self, value: bool) -> Self
         ensures members { result.members ≡ record (self.members) { get_value = value } }
         ensures given { result.given ≡ slice_set self.given 1 true }

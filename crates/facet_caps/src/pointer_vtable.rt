@@ -1,5 +1,5 @@
 ghost use Rattle.std.specs.Prelude.{◌≡◌};
-ghost use Rattle.facet_caps.specs.Empty.{empty_pointer};
+ghost use Rattle.facet_caps.specs.EmptyRecords.{empty_pointer};
 
 use crate::slice_builder_vtable::SliceBuilderVTable;
 

@@ -1,5 +1,5 @@
 ghost use Rattle.std.specs.Prelude.{◌≡◌, true, false, replicate, slice_set};
-ghost use Rattle.facet_caps.specs.Empty.{empty_result};
+ghost use Rattle.facet_caps.specs.EmptyRecords.{empty_result};
 ghost use Rattle.facet_caps.specs.PartialRecord.{built};
 
 use crate::partial_record::unless_missing;
@@ -62,7 +62,7 @@ impl ResultVTableBuilder {
         self
     }
 
-    /// Sets whether the value of a success can be reached.
+    /// Sets whether the value of a success can be accessed.
     pub fn get_ok(mut self, value: bool) -> Self
         ensures members { result.members ≡ record (self.members) { get_ok = value } }
         ensures given { result.given ≡ slice_set self.given 1 true }
@@ -72,7 +72,7 @@ impl ResultVTableBuilder {
         self
     }
 
-    /// Sets whether the error can be reached.
+    /// Sets whether the error can be accessed.
     pub fn get_err(mut self, value: bool) -> Self
         ensures members { result.members ≡ record (self.members) { get_err = value } }
         ensures given { result.given ≡ slice_set self.given 2 true }

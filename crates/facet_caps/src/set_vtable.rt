@@ -1,5 +1,5 @@
 ghost use Rattle.std.specs.Prelude.{◌≡◌, true, false, replicate, slice_set};
-ghost use Rattle.facet_caps.specs.Empty.{empty_set};
+ghost use Rattle.facet_caps.specs.EmptyRecords.{empty_set};
 ghost use Rattle.facet_caps.specs.PartialRecord.{built};
 
 use crate::iter_vtable::IterVTable;

@@ -1,8 +1,8 @@
 ghost use Rattle.std.specs.Prelude.{◌≡◌};
-ghost use Rattle.facet_caps.specs.Erased.{operations_of};
+ghost use Rattle.facet_caps.specs.TypeOps.{operations_of};
 ghost use Rattle.facet_caps.specs.declared.type_ops.TypeOps.TheVariants.{Direct, Indirect};
 
-/// How values of a concrete type are ended, made and cloned, and whether they have a truth value.
+/// Whether values of a concrete type can be dropped, made by default and cloned, and have a truth value.
 #[derive(Clone, Copy)]
 pub struct TypeOpsDirect {
     pub drop_in_place: bool,

@@ -1,5 +1,5 @@
 ghost use Rattle.std.specs.Prelude.{◌≡◌};
-ghost use Rattle.facet_caps.specs.Empty.{empty_direct, empty_indirect};
+ghost use Rattle.facet_caps.specs.EmptyRecords.{empty_direct, empty_indirect};
 
 use crate::typed_builder::TypedVTableDirectBuilder;
 

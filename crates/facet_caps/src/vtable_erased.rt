@@ -1,5 +1,5 @@
 ghost use Rattle.std.specs.Prelude.{◌≡◌, Some};
-ghost use Rattle.facet_caps.specs.Erased.{capabilities_of, erased_text};
+ghost use Rattle.facet_caps.specs.VTableErased.{capabilities_of, erased_text};
 ghost use Rattle.facet_caps.specs.declared.vtable_erased.VTableErased.TheVariants.{Direct, Indirect};
 
 use crate::vtable::{VTableDirect, VTableIndirect};

@@ -1,4 +1,3 @@
-pub mod Cases
-pub mod Pointers
-pub mod Types
-pub mod TypeOperations
+pub mod Def
+pub mod ListDef
+pub mod PointerDef

@@ -18,7 +18,7 @@ use facet_base::ShapeId;
 use facet_caps::{ArrayVTable, ListVTable, MapVTable, OptionVTable, ResultVTable, SetVTable};
 use facet_desc::{ArrayType, SequenceType, SliceType, Ty, UserType};
 
-/// What the values of a shape are, and what they are reached by.
+/// What the values of a shape are, and by which operations they are accessed.
 #[derive(Drop)]
 pub enum Def {
     Undefined,
@@ -36,7 +36,7 @@ pub enum Def {
 }
 
 impl Def {
-    ghost use Rattle.facet_def.specs.Types.{type_of};
+    ghost use Rattle.facet_def.specs.Def.{type_of};
 
     /// The type that a shape of this definition has where no other is given.
     pub fn default_type(&self) -> Ty

@@ -11,7 +11,7 @@ use crate::set_def::SetDef;
 use crate::slice_def::SliceDef;
 
 impl Def {
-    ghost use Rattle.facet_def.specs.Cases.{IsRecordOrBack};
+    ghost use Rattle.facet_def.specs.Def.{IsRecordOrBack};
 
     /// `()` if it is a scalar, and else the definition as it was.
     pub fn into_scalar(self) -> Result<(), Def>

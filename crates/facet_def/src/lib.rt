@@ -1,4 +1,4 @@
-//! Definitions: what a shape holds, by which operations its values are reached, and of which shapes its parts are.
+//! Definitions: what a shape holds, by which operations its values are accessed, and of which shapes its parts are.
 #![tactic(auto)]
 
 mod array_def;
@@ -14,8 +14,6 @@ mod pointer_def;
 mod result_def;
 mod set_def;
 mod slice_def;
-#[cfg(test)]
-mod tests;
 
 pub use array_def::ArrayDef;
 pub use def::Def;

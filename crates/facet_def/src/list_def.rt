@@ -1,6 +1,6 @@
 ghost use Rattle.std.specs.Prelude.{◌≡◌, option_map};
 ghost use Rattle.std.specs.Option.{option_copied};
-ghost use Rattle.facet_def.specs.TypeOperations.{offers};
+ghost use Rattle.facet_def.specs.ListDef.{offers};
 
 use facet_base::ShapeId;
 use facet_caps::{IterVTable, ListTypeOps, ListVTable};
@@ -80,7 +80,7 @@ impl ListDef {
         self.type_ops.is_some_and(|type_ops| type_ops.set_len)
     }
 
-    /// Whether the elements can be reached for writing, by a pointer of their type.
+    /// Whether the elements can be accessed for writing, by a pointer of their type.
     pub fn as_mut_ptr_typed(&self) -> bool
         ensures { result ≡ offers self.now.type_ops (λ ops. ops.as_mut_ptr_typed) }
     {

@@ -18,7 +18,7 @@ pub struct PointerDef {
 }
 
 impl PointerDef {
-    ghost use Rattle.facet_def.specs.Pointers.{is_made_of_pointee};
+    ghost use Rattle.facet_def.specs.PointerDef.{is_made_of_pointee};
 
     /// The shape that it points to.
     pub fn pointee(&self) -> Option<ShapeId>

@@ -1,7 +1,9 @@
 pub mod Attribute
-pub mod Fields
-pub mod Layouts
+pub mod Field
+pub mod FunctionAbi
 pub mod Proxy
-pub mod Texts
-pub mod Variants
+pub mod Repr
+pub mod StructType
+pub mod Ty
+pub mod Variant
 pub mod WithoutSpare

@@ -1,6 +1,6 @@
--- Descriptions with each list compared by its items: how much room a list has for more is no part of what is described.
+-- Descriptions with each list compared by its items: its spare capacity is no part of the description.
 use Rattle.std.specs.Prelude.{map}
-use Rattle.facet_base.specs.Kept.{of_items, without_spare}
+use Rattle.facet_base.specs.Many.{of_items, without_spare}
 use Rattle.facet_desc.specs.declared.enum_type.EnumType.{EnumType}
 use Rattle.facet_desc.specs.declared.field.Field.{Field}
 use Rattle.facet_desc.specs.declared.pointer.PointerType.{PointerType}

@@ -1,6 +1,6 @@
 ghost use Rattle.std.specs.Prelude.{◌≡◌, codes, false, true};
 ghost use Rattle.std.specs.Option.{option_copied};
-ghost use Rattle.facet_desc.specs.Variants.{cow_variant, variant_named};
+ghost use Rattle.facet_desc.specs.Variant.{cow_variant, variant_named};
 
 use crate::repr::{EnumRepr, Repr};
 use crate::variant::Variant;

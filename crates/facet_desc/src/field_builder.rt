@@ -1,5 +1,5 @@
 ghost use Rattle.std.specs.Prelude.{◌≡◌};
-ghost use Rattle.facet_desc.specs.Fields.{fresh_field};
+ghost use Rattle.facet_desc.specs.Field.{fresh_field};
 ghost use Rattle.facet_desc.specs.WithoutSpare.{field_without_spare};
 
 use crate::attribute::Attr;
@@ -25,7 +25,7 @@ impl Model for FieldBuilder {
 
 impl FieldBuilder {
     /// The field of this name and shape at this offset in bytes, with nothing else set. It takes no memory.
-    #[tactic(auto, unfolding(crate::specs::Fields::fresh_field, crate::specs::WithoutSpare::field_without_spare))]
+    #[tactic(auto, unfolding(crate::specs::Field::fresh_field, crate::specs::WithoutSpare::field_without_spare))]
     pub fn new(alloc: Global, name: Text, shape: ShapeId, offset: usize) -> FieldBuilder
         ensures { field_without_spare result ≡ fresh_field name shape offset }
     {

@@ -1,6 +1,6 @@
 ghost use Rattle.std.specs.Prelude.{◌≡◌};
 ghost use Rattle.std.specs.Option.{option_copied};
-ghost use Rattle.facet_desc.specs.Texts.{abi_text};
+ghost use Rattle.facet_desc.specs.FunctionAbi.{abi_text};
 
 use facet_base::{Many, ShapeId};
 

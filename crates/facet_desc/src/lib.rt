@@ -15,8 +15,6 @@ mod proxy;
 mod repr;
 mod sequence;
 mod struct_type;
-#[cfg(test)]
-mod tests;
 mod ty;
 mod variant;
 mod variant_attributes;

@@ -1,6 +1,6 @@
 ghost use Rattle.std.specs.Prelude.{◌≡◌, false};
 ghost use Rattle.std.specs.Result.{result_ok};
-ghost use Rattle.facet_desc.specs.Layouts.{unsigned_repr};
+ghost use Rattle.facet_desc.specs.Repr.{unsigned_repr};
 
 use facet_base::BadSize;
 

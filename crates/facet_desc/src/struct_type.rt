@@ -1,5 +1,5 @@
 ghost use Rattle.std.specs.Prelude.{◌≡◌};
-ghost use Rattle.facet_desc.specs.Variants.{unit_struct};
+ghost use Rattle.facet_desc.specs.StructType.{unit_struct};
 ghost use Rattle.facet_desc.specs.WithoutSpare.{struct_without_spare};
 
 use crate::field::Field;
@@ -27,7 +27,7 @@ pub enum StructKind {
 
 impl StructType {
     /// The struct without fields. It takes no memory.
-    #[tactic(auto, unfolding(crate::specs::Variants::unit_struct, crate::specs::WithoutSpare::struct_without_spare))]
+    #[tactic(auto, unfolding(crate::specs::StructType::unit_struct, crate::specs::WithoutSpare::struct_without_spare))]
     pub fn unit(alloc: Global) -> StructType
         ensures { struct_without_spare result ≡ unit_struct }
     {

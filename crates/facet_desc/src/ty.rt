@@ -1,6 +1,6 @@
 ghost use Rattle.std.specs.Prelude.{◌≡◌, false};
-ghost use Rattle.facet_desc.specs.Layouts.{user_repr};
-ghost use Rattle.facet_desc.specs.Texts.{kind_text};
+ghost use Rattle.facet_desc.specs.Repr.{user_repr};
+ghost use Rattle.facet_desc.specs.Ty.{kind_text};
 
 use crate::enum_type::{EnumType, EnumTypeBuilder};
 use crate::field::Field;

@@ -1,5 +1,6 @@
 ghost use Rattle.std.specs.Prelude.{◌≡◌};
-ghost use Rattle.facet_desc.specs.Variants.{fresh_variant, unit_struct};
+ghost use Rattle.facet_desc.specs.Variant.{fresh_variant};
+ghost use Rattle.facet_desc.specs.StructType.{unit_struct};
 ghost use Rattle.facet_desc.specs.WithoutSpare.{struct_without_spare, variant_without_spare};
 
 use crate::attribute::Attr;
@@ -27,7 +28,7 @@ impl Model for VariantBuilder {
 
 impl VariantBuilder {
     /// The variant of this name and body, with nothing else set. It takes no memory.
-    #[tactic(auto, unfolding(crate::specs::Variants::fresh_variant, crate::specs::WithoutSpare::variant_without_spare))]
+    #[tactic(auto, unfolding(crate::specs::Variant::fresh_variant, crate::specs::WithoutSpare::variant_without_spare))]
     pub fn new(alloc: Global, name: Text, body: StructType) -> VariantBuilder
         ensures fresh { variant_without_spare result ≡ fresh_variant name (struct_without_spare body) }
         ensures body { result.body ≡ body }

@@ -34,10 +34,10 @@ tokens_spelled (k ∷ form) pieces tokens whole e =
     subst (AreSpelled (k ∷ form) pieces) more.2 (fits, ap (λ words. spell_token token ++ words) rest.1 ∙ taken.spelled))
 
 -- behind the last kind of a form no token is written
-ends : (form : List Kind) (tokens : List Token) → is_empty form ≡ true → kinds_are form tokens ≡ true → spell_tokens tokens ≡ []
-ends [] [] e h = refl
-ends [] (token ∷ tokens) e h = let no : ⊥ = cc in absurd no
-ends (k ∷ form) tokens e h = let no : ⊥ = cc in absurd no
+none_behind_last : (form : List Kind) (tokens : List Token) → is_empty form ≡ true → kinds_are form tokens ≡ true → spell_tokens tokens ≡ []
+none_behind_last [] [] e h = refl
+none_behind_last [] (token ∷ tokens) e h = let no : ⊥ = cc in absurd no
+none_behind_last (k ∷ form) tokens e h = let no : ⊥ = cc in absurd no
 
 -- a kind that takes all stands last
 is_last : (all rest : Bool) → (not all || rest) ≡ true → all ≡ true → rest ≡ true
@@ -52,7 +52,7 @@ tokens_read (k ∷ form) [] ok kinds written = let no : ⊥ = cc in absurd no
 tokens_read (k ∷ form) (token ∷ tokens) ok kinds written =
     let forms : (not (takes_all k) || is_empty form ≡ true) × (is_form form ≡ true) = and_parts _ _ ok in
     let parts : (is_of k token ≡ true) × (kinds_are form tokens ≡ true) = and_parts _ _ kinds in
-    let last : takes_all k ≡ true → spell_tokens tokens ≡ [] = λ all. ends form tokens (is_last (takes_all k) (is_empty form) forms.0 all) parts.1 in
+    let last : takes_all k ≡ true → spell_tokens tokens ≡ [] = λ all. none_behind_last form tokens (is_last (takes_all k) (is_empty form) forms.0 all) parts.1 in
     ap (option_and_then (λ first. option_map (λ tokens. first.0 ∷ tokens) (read_tokens form first.1))) (token_read k token (spell_tokens tokens) parts.0 written.0 last)
     ∙ ap (option_map (λ tokens. token ∷ tokens)) (tokens_read form tokens forms.1 parts.1 written.1)
 

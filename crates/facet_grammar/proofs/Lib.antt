@@ -1,9 +1,9 @@
-mod Encoding
+mod CommandTexts
 mod Inverse
 mod Numbers
 mod OneToken
 mod Pieces
+mod ReadingLoops
 mod Spellings
 mod Table
-mod Walking
 mod WordBytes

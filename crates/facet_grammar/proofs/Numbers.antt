@@ -9,8 +9,8 @@ use Rattle.std.proofs.lemmas.Bool.{lt-ltb, le-leb, ltb-true, leb-true, eqb-true,
 use Rattle.std.proofs.lemmas.Fmt.{decimal-digits_value, decimal_digit, decimal_nonempty, first_decimal, length-decimal-le, digits_decimal, digits_value-decimal}
 use Rattle.std.proofs.lemmas.Str.Parse.{digits_value_short}
 use Rattle.std.proofs.lemmas.Option.{cond_some}
-use Rattle.facet_base.specs.Numeral.{number_after, number_below, are_digits, without_plus}
-use Rattle.facet_base.proofs.Numerals.{decimal_digits, unsigned_parsed}
+use Rattle.facet_base.specs.Numeral.{number_after, are_digits, without_plus}
+use Rattle.facet_base.proofs.Numerals.{number_below, decimal_digits, unsigned_parsed}
 use Rattle.facet_grammar.specs.Words.{reference_of, number_of, is_unpadded}
 
 -- what a test lets through
@@ -84,9 +84,9 @@ decimal_number n small =
     let fits : n < 2 ^ 64 = omega arith in
     let some : 0 < length (decimal n) = decimal_nonempty n fits in
     let digits : are_digits (decimal n) ≡ true = and_from _ _ (lt-ltb 0 _ some) (digits_decimal decimal_digits n fits) in
-    let plain : is_unpadded (decimal n) ≡ true = first_unpadded (decimal n) some (decimal_unpadded n small) in
+    let unpadded : is_unpadded (decimal n) ≡ true = first_unpadded (decimal n) some (decimal_unpadded n small) in
     let short : nat_le (length (decimal n)) 9 ≡ true = le-leb _ _ (length-decimal-le 9 n (lit< tt) small fits) in
-    cond-true _ _ _ (and_from _ _ (and_from _ _ digits plain) short) ∙ ap Some (digits_value-decimal decimal_digits n fits)
+    cond-true _ _ _ (and_from _ _ (and_from _ _ digits unpadded) short) ∙ ap Some (digits_value-decimal decimal_digits n fits)
 
 -- a reference is `#` and the decimal digits of its number
 pub reference_spelled : (s : List ℕ) (n : ℕ) → reference_of s ≡ Some n → (s ≡ 35 ∷ decimal n) × (n < 10 ^ 9)

@@ -21,7 +21,7 @@ use Rattle.facet_grammar.proofs.Inverse.{tokens_spelled, tokens_read}
 use Rattle.facet_grammar.proofs.Numbers.{tested_some}
 use Rattle.facet_grammar.proofs.OneToken.{map_some}
 use Rattle.facet_grammar.proofs.Pieces.{joined_pieces, pieces_joined, pieces_whole}
-use Rattle.facet_grammar.proofs.Table.{made, is_listed}
+use Rattle.facet_grammar.proofs.Table.{command_has_tokens, is_listed}
 use Rattle.facet_grammar.proofs.WordBytes.{IsWord, is_word_byte, word_tested, word_of_name, word_of_reference}
 
 -- two rows whose words or whose numbers of tokens differ
@@ -71,14 +71,14 @@ record IsRead (row : Row) (word : List ℕ) (pieces : List (List ℕ)) (command 
   same_word : word ≡ word_of row
   tokens : List Token
   read : read_tokens (form_of row) pieces ≡ Some tokens
-  made : command_from row tokens ≡ Some command
+  command_from_tokens : command_from row tokens ≡ Some command
 
 -- what a row reads, taken apart
 row_read : (row : Row) (word : List ℕ) (pieces : List (List ℕ)) (command : Command) → read_row row (word ∷ pieces) ≡ Some command → IsRead row word pieces command
 row_read row word pieces command e =
     let found : (bytes_eq word (word_of row) ≡ true) × (option_and_then (command_from row) (read_tokens (form_of row) pieces) ≡ Some command) = tested_some _ _ _ e in
     option_and_then_some (command_from row) (read_tokens (form_of row) pieces) command found.1
-    (λ tokens read made. record { same_word = (bytes_eq-Decides word (word_of row)).0 found.0; tokens = tokens; read = read; made = made })
+    (λ tokens read from. record { same_word = (bytes_eq-Decides word (word_of row)).0 found.0; tokens = tokens; read = read; command_from_tokens = from })
 
 -- equal bytes pass the test for equal bytes
 same_test : (s t : List ℕ) → s ≡ t → bytes_eq s t ≡ true
@@ -129,7 +129,7 @@ pieces_spelled : (word : List ℕ) (pieces : List (List ℕ)) (command : Command
 pieces_spelled word pieces command whole e =
     let found = some_row rows word pieces command e in
     let read = found.1 in
-    let of = made found.0 read.tokens command read.made in
+    let of = command_has_tokens found.0 read.tokens command read.command_from_tokens in
     let spelled = tokens_spelled (form_of found.0) pieces read.tokens (or_parts _ _ whole).1 read.read in
     ((λ i. (ap word_of of.same_row ∙ sym read.same_word) i ∷ (ap spell_tokens of.same_tokens ∙ spelled.1) i), subst AreTokens (sym of.same_tokens) spelled.0.written)
 

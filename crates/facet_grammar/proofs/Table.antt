@@ -16,15 +16,15 @@ pub record IsOf (row : Row) (tokens : List Token) (command : Command) : Type 0 w
   pub same_tokens : tokens_of command ≡ tokens
 
 -- the same of a command that is known
-made_of : (made command : Command) → Some made ≡ Some command → IsOf (row_of made) (tokens_of made) command
-made_of made command e =
-    let same : made ≡ command = cc in
-    subst (IsOf (row_of made) (tokens_of made)) same (record { same_row = refl; same_tokens = refl })
+known_command : (known command : Command) → Some known ≡ Some command → IsOf (row_of known) (tokens_of known) command
+known_command known command e =
+    let same : known ≡ command = cc in
+    subst (IsOf (row_of known) (tokens_of known)) same (record { same_row = refl; same_tokens = refl })
 
 -- the command that tokens are has these tokens
-pub made : (r : Row) (tokens : List Token) (command : Command) → command_from r tokens ≡ Some command → IsOf r tokens command
-made row.Put (Name name ∷ Reference shape ∷ Rest text ∷ []) = made_of (Put name shape text)
-made _ _ = λ command e. let no : ⊥ = cc in absurd no
+pub command_has_tokens : (r : Row) (tokens : List Token) (command : Command) → command_from r tokens ≡ Some command → IsOf r tokens command
+command_has_tokens row.Put (Name name ∷ Reference shape ∷ Rest text ∷ []) = known_command (Put name shape text)
+command_has_tokens _ _ = λ command e. let no : ⊥ = cc in absurd no
 
 -- a command is read back from its tokens, which are of the kinds of its row's form, and its row is in the table
 pub record IsListed (command : Command) : Type 0 where

@@ -1,3 +1,5 @@
+//! Facts about the grammar and the spelling of commands: each is the contract of a function.
+
 ghost use Rattle.std.specs.Prelude.{◌≡◌, ℕ, true, List, Some};
 ghost use Rattle.facet_grammar.specs.declared.command.Command.{Command};
 ghost use Rattle.facet_grammar.specs.declared.token.Kind.{Kind};

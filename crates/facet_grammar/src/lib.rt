@@ -3,7 +3,7 @@
 
 mod command;
 mod cursor;
-mod laws;
+pub mod laws;
 mod reading;
 mod row;
 #[cfg(test)]
@@ -12,6 +12,5 @@ mod token;
 mod word;
 
 pub use command::Command;
-pub use laws::{commands_are_spelled, commands_are_texts, forms_are_inverse, spellings_are_read};
 pub use reading::read_command;
 pub use token::{Kind, Token};

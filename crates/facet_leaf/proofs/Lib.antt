@@ -1,6 +1,6 @@
-mod Made
+pub mod HashProxies
 pub mod OneLines
+mod ParsedKinds
 pub mod Parsing
-pub mod Proxies
-pub mod Quoted
-pub mod Writes
+pub mod TextsInParts
+pub mod Utf8Texts

@@ -6,10 +6,10 @@ use Rattle.std.proofs.lemmas.List.Elements.{All-nil, All-cons, All-append}
 use Rattle.std.specs.Fmt.{digits, digits_onto, digit_glyph, signed_decimal}
 use Rattle.std.specs.List.{flat_map, list_all}
 use Rattle.facet_leaf.specs.OneLine.{IsOneLine, HasOneLineDebug}
-use Rattle.facet_leaf.specs.Scalar.{number_of}
-use Rattle.facet_leaf.specs.ScalarModel.{scalar_model}
-use Rattle.facet_leaf.specs.ScalarTexts.{escaped, quoted, truth_text}
-use Rattle.facet_leaf.specs.declared.scalar.Scalar.TheVariants as scalar
+use Rattle.facet_leaf.specs.scalars.Scalar.{number_of}
+use Rattle.facet_leaf.specs.scalars.ScalarModel.{scalar_model}
+use Rattle.facet_leaf.specs.scalars.ScalarTexts.{escaped, quoted, truth_text}
+use Rattle.facet_leaf.specs.declared.scalars.scalar.Scalar.TheVariants as scalar
 
 -- the text of no byte
 none : IsOneLine []

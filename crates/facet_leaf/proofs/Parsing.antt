@@ -11,64 +11,67 @@ use Rattle.std.specs.Int.{w128}
 use Rattle.std.proofs.lemmas.Int.{to_z-of_z}
 use mir.Val.{of_z, to_z, SFits}
 use Rattle.std.proofs.lemmas.Bool.Decides.{nat_tests}
-use Rattle.facet_base.specs.Numeral.{are_digits, number_after, signed_in, unsigned_below, without_plus}
+use Rattle.facet_base.specs.Numeral.{are_digits, number_after, without_plus}
 use Rattle.facet_base.specs.declared.scalar_type.ScalarType.{ScalarType}
 use Rattle.facet_base.specs.declared.scalar_type.ScalarType.TheVariants as kind
-use Rattle.facet_base.proofs.Numerals.{signed_parsed, unsigned_parsed}
-use Rattle.facet_leaf.specs.declared.scalar.Scalar.{Scalar}
-use Rattle.facet_leaf.specs.declared.scalar.Scalar.TheVariants as scalar
-use Rattle.facet_leaf.specs.Scalar.{has_negative, signed_of, whole_of}
-use Rattle.facet_leaf.specs.ScalarTexts.{has_minus, only, scalar_parsed, truth_of, whole_parsed}
+use Rattle.facet_base.proofs.Numerals.{signed_in, signed_parsed, unsigned_below, unsigned_parsed}
+use Rattle.facet_leaf.specs.declared.scalars.scalar.Scalar.{Scalar}
+use Rattle.facet_leaf.specs.declared.scalars.scalar.Scalar.TheVariants as scalar
+use Rattle.facet_leaf.specs.scalars.Scalar.{has_negative, signed_of, whole_of}
+use Rattle.facet_leaf.specs.scalars.ScalarTexts.{has_minus, only, scalar_parsed, truth_of, whole_parsed}
 
-unequal : (xs ys : List ℕ) → (xs ≢ ys) → bytes_eq xs ys ≡ false
-unequal xs ys h = false_from_ne_true (bytes_eq xs ys) (λ e. h ((bytes_eq-Decides xs ys).0 e))
+-- texts that differ are not equal as bytes
+bytes_differ : (xs ys : List ℕ) → (xs ≢ ys) → bytes_eq xs ys ≡ false
+bytes_differ xs ys h = false_from_ne_true (bytes_eq xs ys) (λ e. h ((bytes_eq-Decides xs ys).0 e))
 
-pub truth-parsed : {E : Type 0} (text : List ℕ) (r : Result Bool E) → ParsesBool text r → result_ok r ≡ truth_of text
-truth-parsed text (Ok true) h = sym (ap truth_of h)
-truth-parsed text (Ok false) h = sym (ap truth_of h)
-truth-parsed text (Err e) h = rw (unequal text true_text h.0, unequal text false_text h.1) refl
+-- the truth value that `parse` reads
+pub truth_parsed : {E : Type 0} (text : List ℕ) (r : Result Bool E) → ParsesBool text r → result_ok r ≡ truth_of text
+truth_parsed text (Ok true) h = sym (ap truth_of h)
+truth_parsed text (Ok false) h = sym (ap truth_of h)
+truth_parsed text (Err e) h = rw (bytes_differ text true_text h.0, bytes_differ text false_text h.1) refl
 
 -- a text that no one character spells has not one character
-not_alone : (text : List ℕ) → IsUtf8 text → ((c : ℕ) → IsScalar c → text ≢ encode_utf8 c) → (cs : List ℕ) → chars text ≡ cs → None ≡ only cs
-not_alone text u h [] e = refl
-not_alone text u h (c ∷ []) e =
+not_one_character : (text : List ℕ) → IsUtf8 text → ((c : ℕ) → IsScalar c → text ≢ encode_utf8 c) → (cs : List ℕ) → chars text ≡ cs → None ≡ only cs
+not_one_character text u h [] e = refl
+not_one_character text u h (c ∷ []) e =
     let valid : all_scalars (c ∷ []) ≡ true = subst (λ cs. all_scalars cs ≡ true) e (scalars-chars text u) in
     let spelled : encode_utf8_all (c ∷ []) ≡ text = subst (λ cs. encode_utf8_all cs ≡ text) e (encodes-chars text u) in
     absurd (h c (and_parts _ _ valid).0 (sym spelled ∙ append-nil (encode_utf8 c)))
-not_alone text u h (c ∷ d ∷ cs) e = refl
+not_one_character text u h (c ∷ d ∷ cs) e = refl
 
-pub character-parsed : {E : Type 0} (text : List ℕ) (r : Result ℕ E) → IsUtf8 text → ParsesChar text r → result_ok r ≡ only (chars text)
-character-parsed text (Ok c) u h = sym (ap only (chars_past_char text [] c u (h ∙ sym (append-nil (encode_utf8 c))) ∙ ap (λ cs. c ∷ cs) chars-nil))
-character-parsed text (Err e) u h = not_alone text u h (chars text) refl
+-- the character that `parse` reads
+pub character_parsed : {E : Type 0} (text : List ℕ) (r : Result ℕ E) → IsUtf8 text → ParsesChar text r → result_ok r ≡ only (chars text)
+character_parsed text (Ok c) u h = sym (ap only (chars_past_char text [] c u (h ∙ sym (append-nil (encode_utf8 c))) ∙ ap (λ cs. c ∷ cs) chars-nil))
+character_parsed text (Err e) u h = not_one_character text u h (chars text) refl
 
 -- a number from a limit on
-beyond : {A : Type 0} (f : A → Scalar) (x : A) (limit n : ℕ) → limit ≤ n → option_map f (cond (nat_lt n limit) (Some x) None) ≡ None
-beyond f x limit n h = let above : nat_lt n limit ≡ false = grind (arith, nat_tests) in rw above refl
+none_from_limit : {A : Type 0} (f : A → Scalar) (x : A) (limit n : ℕ) → limit ≤ n → option_map f (cond (nat_lt n limit) (Some x) None) ≡ None
+none_from_limit f x limit n h = let above : nat_lt n limit ≡ false = grind (arith, nat_tests) in rw above refl
 
 -- no kind has a number from 2 ^ 128 on
 too_great : (k : ScalarType) (n : ℕ) → 2 ^ 128 ≤ n → whole_of k (pos n) ≡ None
-too_great kind.U8 n h = beyond scalar.U8 n (2 ^ 8) n (omega arith)
-too_great kind.U16 n h = beyond scalar.U16 n (2 ^ 16) n (omega arith)
-too_great kind.U32 n h = beyond scalar.U32 n (2 ^ 32) n (omega arith)
-too_great kind.U64 n h = beyond scalar.U64 n (2 ^ 64) n (omega arith)
-too_great kind.U128 n h = beyond scalar.U128 n (2 ^ 128) n (omega arith)
-too_great kind.USize n h = beyond scalar.USize n (2 ^ 64) n (omega arith)
-too_great kind.I8 n h = beyond scalar.I8 (pos n) (2 ^ 7) n (omega arith)
-too_great kind.I16 n h = beyond scalar.I16 (pos n) (2 ^ 15) n (omega arith)
-too_great kind.I32 n h = beyond scalar.I32 (pos n) (2 ^ 31) n (omega arith)
-too_great kind.I64 n h = beyond scalar.I64 (pos n) (2 ^ 63) n (omega arith)
-too_great kind.I128 n h = beyond scalar.I128 (pos n) (2 ^ 127) n (omega arith)
-too_great kind.ISize n h = beyond scalar.ISize (pos n) (2 ^ 63) n (omega arith)
+too_great kind.U8 n h = none_from_limit scalar.U8 n (2 ^ 8) n (omega arith)
+too_great kind.U16 n h = none_from_limit scalar.U16 n (2 ^ 16) n (omega arith)
+too_great kind.U32 n h = none_from_limit scalar.U32 n (2 ^ 32) n (omega arith)
+too_great kind.U64 n h = none_from_limit scalar.U64 n (2 ^ 64) n (omega arith)
+too_great kind.U128 n h = none_from_limit scalar.U128 n (2 ^ 128) n (omega arith)
+too_great kind.USize n h = none_from_limit scalar.USize n (2 ^ 64) n (omega arith)
+too_great kind.I8 n h = none_from_limit scalar.I8 (pos n) (2 ^ 7) n (omega arith)
+too_great kind.I16 n h = none_from_limit scalar.I16 (pos n) (2 ^ 15) n (omega arith)
+too_great kind.I32 n h = none_from_limit scalar.I32 (pos n) (2 ^ 31) n (omega arith)
+too_great kind.I64 n h = none_from_limit scalar.I64 (pos n) (2 ^ 63) n (omega arith)
+too_great kind.I128 n h = none_from_limit scalar.I128 (pos n) (2 ^ 127) n (omega arith)
+too_great kind.ISize n h = none_from_limit scalar.ISize (pos n) (2 ^ 63) n (omega arith)
 too_great k n h = refl
 
 -- no kind has a number below -2 ^ 127
 too_small : (k : ScalarType) (n : ℕ) → 2 ^ 127 ≤ n → whole_of k (negsuc n) ≡ None
-too_small kind.I8 n h = beyond scalar.I8 (negsuc n) (2 ^ 7) n (omega arith)
-too_small kind.I16 n h = beyond scalar.I16 (negsuc n) (2 ^ 15) n (omega arith)
-too_small kind.I32 n h = beyond scalar.I32 (negsuc n) (2 ^ 31) n (omega arith)
-too_small kind.I64 n h = beyond scalar.I64 (negsuc n) (2 ^ 63) n (omega arith)
-too_small kind.I128 n h = beyond scalar.I128 (negsuc n) (2 ^ 127) n (omega arith)
-too_small kind.ISize n h = beyond scalar.ISize (negsuc n) (2 ^ 63) n (omega arith)
+too_small kind.I8 n h = none_from_limit scalar.I8 (negsuc n) (2 ^ 7) n (omega arith)
+too_small kind.I16 n h = none_from_limit scalar.I16 (negsuc n) (2 ^ 15) n (omega arith)
+too_small kind.I32 n h = none_from_limit scalar.I32 (negsuc n) (2 ^ 31) n (omega arith)
+too_small kind.I64 n h = none_from_limit scalar.I64 (negsuc n) (2 ^ 63) n (omega arith)
+too_small kind.I128 n h = none_from_limit scalar.I128 (negsuc n) (2 ^ 127) n (omega arith)
+too_small kind.ISize n h = none_from_limit scalar.ISize (negsuc n) (2 ^ 63) n (omega arith)
 too_small k n h = refl
 
 -- the same of a number behind a minus
@@ -77,46 +80,46 @@ too_small_written k zero h = absurd (omega arith)
 too_small_written k (suc n) h = too_small k n (omega arith)
 
 -- digits below 2 ^ 128 write each number that a kind has
-limited : (k : ScalarType) (n : ℕ) (digits small : Bool) → nat_lt n (2 ^ 128) ≡ small
+read_below_limit : (k : ScalarType) (n : ℕ) (digits small : Bool) → nat_lt n (2 ^ 128) ≡ small
     → option_and_then (λ m. whole_of k (pos m)) (cond (digits && small) (Some n) None) ≡ option_and_then (whole_of k) (option_map pos (cond digits (Some n) None))
-limited k n false small h = refl
-limited k n true true h = refl
-limited k n true false h = sym (too_great k n (grind (arith, nat_tests)))
+read_below_limit k n false small h = refl
+read_below_limit k n true true h = refl
+read_below_limit k n true false h = sym (too_great k n (grind (arith, nat_tests)))
 
 -- digits up to 2 ^ 127 write behind a minus each number that a kind has
-limited_below : (k : ScalarType) (n : ℕ) (digits small signed : Bool) → nat_lt n (2 ^ 127 + 1) ≡ small
+read_behind_minus_below_limit : (k : ScalarType) (n : ℕ) (digits small signed : Bool) → nat_lt n (2 ^ 127 + 1) ≡ small
     → option_and_then (λ z. cond signed (whole_of k z) None) (option_map (λ m. neg_ℤ (pos m)) (cond (digits && small) (Some n) None)) ≡ cond (not signed) None (option_and_then (whole_of k) (option_map (λ m. neg_ℤ (pos m)) (cond digits (Some n) None)))
-limited_below k n false small true h = refl
-limited_below k n false small false h = refl
-limited_below k n true true true h = refl
-limited_below k n true true false h = refl
-limited_below k n true false true h = sym (too_small_written k n (grind (arith, nat_tests)))
-limited_below k n true false false h = refl
+read_behind_minus_below_limit k n false small true h = refl
+read_behind_minus_below_limit k n false small false h = refl
+read_behind_minus_below_limit k n true true true h = refl
+read_behind_minus_below_limit k n true true false h = refl
+read_behind_minus_below_limit k n true false true h = sym (too_small_written k n (grind (arith, nat_tests)))
+read_behind_minus_below_limit k n true false false h = refl
 
 -- of a text without a minus the code and the definition read the same number
-without : (k : ScalarType) (text : List ℕ) → has_minus text ≡ false → option_and_then (λ n. whole_of k (pos n)) (unsigned_below (2 ^ 128) text) ≡ whole_parsed k text
-without k [] h = refl
-without k (b ∷ text) h =
+read_without_minus : (k : ScalarType) (text : List ℕ) → has_minus text ≡ false → option_and_then (λ n. whole_of k (pos n)) (unsigned_below (2 ^ 128) text) ≡ whole_parsed k text
+read_without_minus k [] h = refl
+read_without_minus k (b ∷ text) h =
     let digits = without_plus (b ∷ text) in
-    let same = limited k (number_after 0 digits) (are_digits digits) (nat_lt (number_after 0 digits) (2 ^ 128)) refl in
+    let same = read_below_limit k (number_after 0 digits) (are_digits digits) (nat_lt (number_after 0 digits) (2 ^ 128)) refl in
     rw h same
 
 -- and so they do of a text with one
-behind : (k : ScalarType) (text : List ℕ) → has_minus text ≡ true → option_and_then (λ z. cond (has_negative k) (whole_of k z) None) (signed_in 127 text) ≡ whole_parsed k text
-behind k [] h = cc
-behind k (b ∷ text) h =
-    let same = limited_below k (number_after 0 text) (are_digits text) (nat_lt (number_after 0 text) (2 ^ 127 + 1)) (has_negative k) refl in
+read_behind_minus : (k : ScalarType) (text : List ℕ) → has_minus text ≡ true → option_and_then (λ z. cond (has_negative k) (whole_of k z) None) (signed_in 127 text) ≡ whole_parsed k text
+read_behind_minus k [] h = cc
+read_behind_minus k (b ∷ text) h =
+    let same = read_behind_minus_below_limit k (number_after 0 text) (are_digits text) (nat_lt (number_after 0 text) (2 ^ 127 + 1)) (has_negative k) refl in
     rw h same
 
 -- the number that a text without a minus is read as
 pub unsigned_read : {E : Type 0} (k : ScalarType) (text : List ℕ) (r : Result ℕ E) → has_minus text ≡ false → ParsesUnsigned 128 10 text r
     → option_and_then (λ n. whole_of k (pos n)) (result_ok r) ≡ whole_parsed k text
-unsigned_read k text r h p = ap (option_and_then (λ n. whole_of k (pos n))) (unsigned_parsed 128 text r p) ∙ without k text h
+unsigned_read k text r h p = ap (option_and_then (λ n. whole_of k (pos n))) (unsigned_parsed 128 text r p) ∙ read_without_minus k text h
 
 -- the number that a text with a minus is read as
 pub signed_read : {E : Type 0} (k : ScalarType) (text : List ℕ) (r : Result ℤ E) → has_minus text ≡ true → ParsesSigned w128 10 text r
     → option_and_then (λ z. cond (has_negative k) (whole_of k z) None) (result_ok r) ≡ whole_parsed k text
-signed_read k text r h p = ap (option_and_then (λ z. cond (has_negative k) (whole_of k z) None)) (signed_parsed w128 text r p) ∙ behind k text h
+signed_read k text r h p = ap (option_and_then (λ z. cond (has_negative k) (whole_of k z) None)) (signed_parsed w128 text r p) ∙ read_behind_minus k text h
 
 -- the test of the first byte
 pub minus_first : (text : List ℕ) → nat_eq (get_or text 0 0) 45 ≡ has_minus text
@@ -128,10 +131,10 @@ below_zero : (k : ScalarType) (n : ℕ) → cond (has_negative k) (whole_of k (n
 below_zero kind.U8 n = refl
 below_zero k n = refl
 
--- an i128 that is passed on
-pub passed : {E : Type 0} (text : List ℕ) (x : ℤ) (r : Result ℤ E) → Some x ≡ result_ok r → ParsesSigned w128 10 text r → to_z w128 (of_z w128 x) ≡ x
-passed text x (Ok y) e h = let same : x ≡ y = cc in rw same (to_z-of_z w128 y (subst (SFits w128) (sym h.1) h.0.1))
-passed text x (Err f) e h = cc
+-- an i128 is the same once it is encoded and decoded
+pub i128_is_kept : {E : Type 0} (text : List ℕ) (x : ℤ) (r : Result ℤ E) → Some x ≡ result_ok r → ParsesSigned w128 10 text r → to_z w128 (of_z w128 x) ≡ x
+i128_is_kept text x (Ok y) e h = let same : x ≡ y = cc in rw same (to_z-of_z w128 y (subst (SFits w128) (sym h.1) h.0.1))
+i128_is_kept text x (Err f) e h = cc
 
 -- an i128 is -1 - n where n is below 2 ^ 127
 complement_tested : (k : ScalarType) (n : ℕ) (z : ℤ) (small : Bool) → nat_lt n (2 ^ 127) ≡ small → Some z ≡ cond small (Some (negsuc n)) None

@@ -1,11 +1,11 @@
--- What the methods of a leaf type return.
+-- Leaf semantics: what the methods of a leaf type return.
 use Rattle.std.specs.Prelude.{ℕ, Bool, List, Option}
 use Rattle.std.specs.declared.cmp.Ordering.{Ordering}
 use Rattle.facet_base.specs.declared.characteristic.Characteristic.{Characteristic}
 use Rattle.facet_base.specs.declared.scalar_type.ScalarType.{ScalarType}
 use Rattle.facet_leaf.specs.declared.conversion.Conversion.{Conversion}
 use Rattle.facet_leaf.specs.declared.hook.LeafHook.{LeafHook}
-use Rattle.facet_leaf.specs.HashWrite.{HashWrite}
+use Rattle.facet_leaf.specs.hashing.HashWrite.{HashWrite}
 
 -- the results, of which the contracts of a leaf type speak
 pub record LeafModel (L : Type 0) : Type 0 where

@@ -1,10 +1,5 @@
-pub mod Hash
-pub mod HashWrite
 pub mod LeafLaws
 pub mod LeafModel
 pub mod OneLine
-pub mod Proxy
-pub mod Scalar
-pub mod ScalarLaws
-pub mod ScalarModel
-pub mod ScalarTexts
+pub mod hashing
+pub mod scalars

@@ -1,12 +1,12 @@
 ghost use Rattle.std.specs.Prelude.{◌≡◌, IsTrue, IfOk, MatchResult, Some, ok_or};
 ghost use Rattle.std.specs.Str.{IsUtf8};
-ghost use Rattle.facet_base.specs.Output.{HoldsText};
-ghost use Rattle.facet_leaf.specs.HashWrite.{fed_all};
+ghost use Rattle.facet_base.specs.Write.{HoldsText};
+ghost use Rattle.facet_leaf.specs.hashing.HashWrite.{fed_all};
 ghost use Rattle.facet_leaf.specs.LeafModel.{LeafModel};
 ghost use Rattle.facet_leaf.specs.LeafLaws.{LeafLaws};
 
 use crate::conversion::{Conversion, NoRoom};
-use crate::hash_sink::HashSink;
+use crate::hashing::hash_sink::HashSink;
 use crate::hook::LeafHook;
 use facet_base::{Characteristic, ParseError, ScalarType, Write};
 use std::alloc::{AllocError, Global};

@@ -2,30 +2,20 @@
 #![tactic(auto)]
 
 mod conversion;
-mod convert;
-mod fnv;
-mod hash;
-mod hash_proxy;
-mod hash_sink;
+mod hashing;
 mod hook;
-mod kinds;
-mod laws;
+/// Laws: theorems over the definitions, each the contract of a function.
+pub mod laws;
 mod leaf;
-mod number;
-mod order;
-mod parse;
-mod recorder;
-mod scalar;
+mod scalars;
 #[cfg(test)]
 mod tests;
-mod texts;
 
 pub use conversion::{Conversion, NoRoom};
-pub use fnv::Fnv128;
-pub use hash_proxy::HashProxy;
-pub use hash_sink::HashSink;
+pub use hashing::fnv::Fnv128;
+pub use hashing::hash_proxy::HashProxy;
+pub use hashing::hash_sink::HashSink;
+pub use hashing::recorder::Recorder;
 pub use hook::LeafHook;
-pub use laws::debug_texts_are_one_line;
 pub use leaf::Leaf;
-pub use recorder::Recorder;
-pub use scalar::Scalar;
+pub use scalars::scalar::Scalar;

@@ -1,14 +1,14 @@
 ghost use Rattle.std.specs.Prelude.{◌≡◌, IsTrue};
 
 use crate::conversion::Conversion;
-use crate::convert::convert_scalar;
 use crate::hook::LeafHook;
-use crate::kinds::scalar_kind_of;
 use crate::leaf::Leaf;
-use crate::order::order_scalars;
-use crate::parse::parse_scalar;
-use crate::scalar::Scalar;
-use crate::texts::{write_debug_of, write_display_of};
+use crate::scalars::convert::convert_scalar;
+use crate::scalars::kinds::scalar_kind_of;
+use crate::scalars::order::order_scalars;
+use crate::scalars::parse::parse_scalar;
+use crate::scalars::scalar::Scalar;
+use crate::scalars::texts::{write_debug_of, write_display_of};
 use facet_base::{Characteristic, ScalarType, Text};
 use std::alloc::{AllocError, Global};
 use std::cmp::Ordering;

@@ -11,10 +11,10 @@ use Rattle.facet_session.specs.Interpreter.{State, Turn, first_state, next}
 use Rattle.facet_session.specs.Script.{is_newline, lines, turns, turns_from, answer_line, after, answers}
 use Rattle.facet_session.specs.Session.{CarriesOut, IsNew}
 use Rattle.facet_script.specs.Progress.{HasAnswered}
-use Rattle.facet_script.proofs.Lines.{lines_parted}
+use Rattle.facet_script.proofs.CutLines.{lines_parted}
 use Rattle.facet_session.proofs.ShownSessions.{shows_new}
 use Rattle.facet_base.proofs.Lists.{next_at}
-use Rattle.facet_script.proofs.Turns.{after_next, answers_next}
+use Rattle.facet_script.proofs.OneMoreTurn.{after_next, answers_next}
 
 turns_length : {L : Type 0} (m : LeafModel L) (state : State L) (ls : List (List ℕ)) → length (turns_from m state ls) ≡ length ls + 1
 turns_length m state [] = refl

@@ -1,5 +1,5 @@
 mod AnsweredLines
-mod Lines
+mod CutLines
+mod OneMoreTurn
 mod ServedRuns
-mod Turns
 mod WrittenPieces

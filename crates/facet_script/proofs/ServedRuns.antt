@@ -19,7 +19,7 @@ use Rattle.facet_script.specs.Run.{FitsKnown, Serves, Writes, Logs, last_dropped
 use Rattle.facet_script.specs.Progress.{HasAnswered}
 use Rattle.facet_script.proofs.AnsweredLines.{turns_left, one_more_answered}
 use Rattle.facet_session.proofs.ShownSessions.{shows_same, shows_new}
-use Rattle.facet_script.proofs.Turns.{after_next, answers_next, answers_before, dropped_last, dropped_none}
+use Rattle.facet_script.proofs.OneMoreTurn.{after_next, answers_next, answers_before, dropped_last, dropped_none}
 
 -- an answer was not written whole
 part_writes : {L : Type 0} (m : LeafModel L) (script : List ℕ) (k : ℕ) (turn : Turn L) (rest : List (Turn L)) (before mid now : Option (List ℕ)) (s : Session L) (error : OutputError)

@@ -1,7 +1,7 @@
 -- What a sink holds of a text that was written to it.
 use Rattle.std.specs.Prelude.{ℕ, ◌<◌, List, length, Option}
 use Rattle.std.specs.Io.KnownBytes.{Appends, Keeps}
-use Rattle.facet_base.specs.Output.{IsPrefix}
+use Rattle.facet_base.specs.Write.{IsPrefix}
 use Rattle.facet_script.specs.declared.output.OutputError.{OutputError}
 use Rattle.facet_script.specs.declared.output.OutputError.TheVariants.{Failed, Memory}
 use Rattle.facet_script.specs.declared.report.Status.{Status}

@@ -1,7 +1,7 @@
 -- What a run over a script has done at its exit.
 use Rattle.std.specs.Prelude.{◌≡◌, ◌⊎◌, ℕ, ◌+◌, ◌-◌, ◌^◌, ◌<◌, ◌≤◌, List, [], length, take, drop, Option, IfSome}
 use Rattle.std.specs.List.{flat_map}
-use Rattle.facet_base.specs.Output.{IsPrefix}
+use Rattle.facet_base.specs.Write.{IsPrefix}
 use Rattle.facet_leaf.specs.LeafModel.{LeafModel}
 use Rattle.facet_session.specs.declared.session.Session.{Session}
 use Rattle.facet_session.specs.Script.{lines, turns, after, answers, Balances}

@@ -4,10 +4,11 @@ ghost use Rattle.facet_session.specs.Script.{is_newline, after};
 ghost use Rattle.facet_session.specs.Interpreter.{last};
 ghost use Rattle.facet_session.specs.Session.{IsNew};
 ghost use Rattle.facet_stream.specs.Causes.{Rose};
-ghost use Rattle.facet_script.specs.Run.{Serves, IsCutShort};
+ghost use Rattle.facet_script.specs.Output.{status_of};
 ghost use Rattle.facet_script.specs.Progress.{HasAnswered};
+ghost use Rattle.facet_script.specs.Run.{Serves, IsCutShort};
 
-use crate::output::write_line;
+use crate::output::{OutputError, write_line};
 use crate::{Report, Status};
 use facet_block::Leaf;
 use facet_session::{Session, finish, step};
@@ -34,12 +35,7 @@ pub fn serve<L: Leaf, K: Sink>(
     };
     let answer = match finish(alloc, session) {
         Ok(answer) => answer,
-        Err(AllocError) => {
-            return Report {
-                status: Status::NoMemory,
-                lines,
-            };
-        }
+        Err(AllocError) => return out_of_memory(lines),
     };
     let lines = lines + 1;
     match write_line(sink, answer.text) {
@@ -47,10 +43,7 @@ pub fn serve<L: Leaf, K: Sink>(
             status: Status::Ok,
             lines,
         },
-        Err(error) => Report {
-            status: error.status(),
-            lines,
-        },
+        Err(error) => unwritten(error, lines),
     }
 }
 
@@ -77,25 +70,35 @@ fn serve_lines<L: Leaf, K: Sink>(
         let (line, after) = cut_line(rest);
         let answer = match step(alloc, session, line) {
             Ok(answer) => answer,
-            Err(AllocError) => {
-                return Err(Report {
-                    status: Status::NoMemory,
-                    lines,
-                });
-            }
+            Err(AllocError) => return Err(out_of_memory(lines)),
         };
         lines += 1;
         match write_line(sink, answer.text) {
             Ok(()) => rest = after,
-            Err(error) => {
-                return Err(Report {
-                    status: error.status(),
-                    lines,
-                });
-            }
+            Err(error) => return Err(unwritten(error, lines)),
         }
     }
     Ok(lines)
+}
+
+// The report of a run that memory ran out in after so many answers.
+fn out_of_memory(lines: usize) -> Report
+    ensures { result ≡ record { status = Status.NoMemory; lines = lines } }
+{
+    Report {
+        status: Status::NoMemory,
+        lines,
+    }
+}
+
+// The report of a run whose last answer, of so many, was not written whole.
+fn unwritten(error: OutputError, lines: usize) -> Report
+    ensures { result ≡ record { status = status_of error; lines = lines } }
+{
+    Report {
+        status: error.status(),
+        lines,
+    }
 }
 
 // The first line, and what follows its newline.

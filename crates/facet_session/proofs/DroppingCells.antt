@@ -5,7 +5,7 @@ use Rattle.std.proofs.lemmas.Option.{slice_get_within, get_or_from_slice_get}
 use Rattle.facet_base.proofs.Lists.{slice_get_drop}
 use Rattle.facet_shapes.specs.Registry.{Registry}
 use Rattle.facet_session.specs.declared.session.Cell.{Cell}
-use Rattle.facet_session.specs.Stored.{stored_in, stored_in_all}
+use Rattle.facet_session.specs.Cell.{stored_in, stored_in_all}
 
 -- two lists that are one from index i on have the same there
 pub same_at : {A : Type 0} (xs ys : List A) (i : ℕ) (x : A) → drop i xs ≡ drop i ys → Some x ≡ slice_get xs i → slice_get ys i ≡ Some x

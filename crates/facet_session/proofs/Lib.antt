@@ -1,7 +1,6 @@
 mod AnswerLines
 mod AnswerTexts
 pub mod BalanceLemmas
-mod CellValues
 mod DroppingCells
 mod InterpreterLaws
 mod PutLemmas

@@ -12,8 +12,8 @@ use Rattle.facet_block.specs.Block.{size_of}
 use Rattle.facet_shapes.specs.Registry.{Registry, kind_at, size_at, offers}
 use Rattle.facet_shapes.specs.declared.value_kind.ValueKind.{ValueKind}
 use Rattle.facet_shapes.specs.declared.value_kind.ValueKind.TheVariants as kind
-use Rattle.facet_values.proofs.Leaves.{leaf_block_size, reads_leaf}
-use Rattle.facet_values.specs.Place.{leaf_block}
+use Rattle.facet_values.proofs.LeafReading.{leaf_block_size, reads_leaf}
+use Rattle.facet_values.specs.Place.{leaf_block, start_of}
 use Rattle.facet_values.specs.Reading.{Reads}
 use Rattle.facet_values.specs.Value.{leaf, leaves}
 use Rattle.facet_session.specs.declared.session.Session.{Session}
@@ -68,23 +68,24 @@ module _ {L : Type 0} (m : LeafModel L) where
         ∙ ap (add_parsed state name s) (sym is)
 
   -- a cell whose block has a leaf at its start shows an entry of that leaf
-  entry_shown : (registry : Registry) (cell : Cell L) (x : L) → kind_at registry cell.shape.0 ≡ kind.Leaf (m.kind x) → 0 < size_at registry cell.shape.0
+  entry_shown : (registry : Registry) (cell : Cell L) (x : L) → cell.shape.0 < registry.sealed → kind_at registry cell.shape.0 ≡ kind.Leaf (m.kind x) → 0 < size_at registry cell.shape.0
       → cell.block ≡ leaf_block (size_at registry cell.shape.0) x → ShowsEntry m registry cell (record { name = cell.name; shape = cell.shape.0; value = leaf x })
-  entry_shown registry cell x of some block =
+  entry_shown registry cell x sealed of some block =
       let s = cell.shape.0 in
       record {
         name = refl;
         shape = refl;
+        sealed = sealed;
         size = ap size_of block ∙ leaf_block_size x (size_at registry s);
-        reads = subst (λ b. Reads m registry (record { shape = s; block = b; offset = 0 }) (leaf x)) (sym block) (reads_leaf m registry s x of some);
+        reads = subst (λ b. Reads m registry (start_of s b) (leaf x)) (sym block) (reads_leaf m registry s x of some);
       }
 
   -- a session with such a cell more carries out a `put` of the leaf
-  pub leaf_carried : (before now : Session L) (answer : Answer) (cell : Cell L) (x : L) → kind_at before.shapes cell.shape.0 ≡ kind.Leaf (m.kind x) → 0 < size_at before.shapes cell.shape.0
+  pub leaf_carried : (before now : Session L) (answer : Answer) (cell : Cell L) (x : L) → cell.shape.0 < before.shapes.sealed → kind_at before.shapes cell.shape.0 ≡ kind.Leaf (m.kind x) → 0 < size_at before.shapes cell.shape.0
       → cell.block ≡ leaf_block (size_at before.shapes cell.shape.0) x → now.shapes ≡ before.shapes → now.cells.items ≡ before.cells.items ++ cell ∷ [] → now.log.leaves ≡ []
       → answer.text ≡ codes "ok" ++ listed m (codes " made [") (x ∷ []) → answer.made ≡ 1 → answer.dropped ≡ 0
       → (state : State L) → Shows m before state → CarriesOut m now answer (add_parsed state cell.name cell.shape.0 (Some x))
-  leaf_carried before now answer cell x of some block shapes cells empty text made dropped state shown = record {
+  leaf_carried before now answer cell x sealed of some block shapes cells empty text made dropped state shown = record {
     text = text ∙ sym (append-nil (codes "ok" ++ listed m (codes " made [") (x ∷ [])));
     made = made;
     dropped = dropped;
@@ -92,7 +93,7 @@ module _ {L : Type 0} (m : LeafModel L) where
       registry = shapes ∙ shown.registry;
       cells =
           let entry : Entry L = record { name = cell.name; shape = cell.shape.0; value = leaf x } in
-          let one = subst (λ r. ShowsEntry m r cell entry) shown.registry (entry_shown before.shapes cell x of some block) in
+          let one = subst (λ r. ShowsEntry m r cell entry) shown.registry (entry_shown before.shapes cell x sealed of some block) in
           subst (λ cs. ShowEntries m state.registry cs (state.entries ++ entry ∷ [])) (sym cells) (show_more m state.registry before.cells.items state.entries cell entry shown.cells one);
     };
     log = empty;

@@ -5,14 +5,15 @@ use Rattle.std.proofs.lemmas.List.Elements.{All-from_recursion}
 use Rattle.facet_leaf.specs.LeafModel.{LeafModel}
 use Rattle.facet_shapes.specs.Prelude.{prelude}
 use Rattle.facet_shapes.specs.Registry.{Registry}
+use Rattle.facet_values.proofs.ReadablePlaces.{leaves_read}
+use Rattle.facet_values.specs.Place.{start_of}
 use Rattle.facet_values.specs.Reading.{Reads}
 use Rattle.facet_session.specs.declared.session.Session.{Session}
 use Rattle.facet_session.specs.declared.session.Cell.{Cell}
 use Rattle.facet_session.specs.Interpreter.{last}
 use Rattle.facet_session.specs.State.{Entry, State, first_state, leaves_of_entries}
 use Rattle.facet_session.specs.Session.{ShowsEntry, ShowEntries, Shows, IsReady, IsNew, IsUnchanged}
-use Rattle.facet_session.specs.Stored.{stored_in_all, IsFilled}
-use Rattle.facet_session.proofs.CellValues.{stored_leaves, filled_by}
+use Rattle.facet_session.specs.Cell.{HoldsValue, stored_in_all}
 
 module _ {L : Type 0} (m : LeafModel L) where
   -- a session with the same registry and cells shows the same states
@@ -40,15 +41,18 @@ module _ {L : Type 0} (m : LeafModel L) where
         let rest = taken_shown cs es name shown.1 in
         cc
 
-    at_start : (cell : Cell L) (entry : Entry L) → ShowsEntry m registry cell entry → Reads m registry (record { shape = cell.shape.0; block = cell.block; offset = 0 }) entry.value
+    at_start : (cell : Cell L) (entry : Entry L) → ShowsEntry m registry cell entry → Reads m registry (start_of cell.shape.0 cell.block) entry.value
     at_start cell entry shown = rw shown.shape shown.reads
 
-    -- each cell is filled
-    pub all_filled : (cells : List (Cell L)) (entries : List (Entry L)) → ShowEntries m registry cells entries → AllByRecursion (IsFilled registry) cells
-    all_filled [] [] shown = tt
-    all_filled [] (e ∷ es) shown = absurd shown
-    all_filled (c ∷ cs) [] shown = absurd shown
-    all_filled (c ∷ cs) (e ∷ es) shown = (filled_by m registry c e.value (at_start c e shown.0), all_filled cs es shown.1)
+    holds_value : (cell : Cell L) (entry : Entry L) → ShowsEntry m registry cell entry → HoldsValue m registry cell
+    holds_value cell entry shown = record { sealed = rw shown.shape shown.sealed; readable = record { value = entry.value; reads = at_start cell entry shown } }
+
+    -- each cell holds a value
+    pub all_hold : (cells : List (Cell L)) (entries : List (Entry L)) → ShowEntries m registry cells entries → AllByRecursion (HoldsValue m registry) cells
+    all_hold [] [] shown = tt
+    all_hold [] (e ∷ es) shown = absurd shown
+    all_hold (c ∷ cs) [] shown = absurd shown
+    all_hold (c ∷ cs) (e ∷ es) shown = (holds_value c e shown.0, all_hold cs es shown.1)
 
     -- what the cells store are the leaves of the values
     pub stored_shown : (cells : List (Cell L)) (entries : List (Entry L)) → ShowEntries m registry cells entries → stored_in_all registry cells ≡ leaves_of_entries entries
@@ -56,15 +60,15 @@ module _ {L : Type 0} (m : LeafModel L) where
     stored_shown [] (e ∷ es) shown = absurd shown
     stored_shown (c ∷ cs) [] shown = absurd shown
     stored_shown (c ∷ cs) (e ∷ es) shown =
-        let first = stored_leaves m registry c.shape.0 c.block e.value (at_start c e shown.0) in
+        let first = leaves_read m registry (start_of c.shape.0 c.block) e.value (at_start c e shown.0) in
         let rest = stored_shown cs es shown.1 in
         cc
 
-  -- the cells of a session that shows a state are filled
-  pub cells_filled : (session : Session L) → IsReady m session → All (IsFilled session.shapes) session.cells.items
-  cells_filled session ready =
-      let all = all_filled ready.state.registry session.cells.items ready.state.entries ready.shown.cells in
-      subst (λ r. All (IsFilled r) session.cells.items) (sym ready.shown.registry) (All-from_recursion _ _ all)
+  -- the cells of a session that shows a state hold values
+  pub cells_hold : (session : Session L) → IsReady m session → All (HoldsValue m session.shapes) session.cells.items
+  cells_hold session ready =
+      let all = all_hold ready.state.registry session.cells.items ready.state.entries ready.shown.cells in
+      subst (λ r. All (HoldsValue m r) session.cells.items) (sym ready.shown.registry) (All-from_recursion _ _ all)
 
   -- and store the leaves of its entries
   pub stored_session : (session : Session L) (state : State L) → Shows m session state → stored_in_all session.shapes session.cells.items ≡ leaves_of_entries state.entries

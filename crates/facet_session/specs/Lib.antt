@@ -1,9 +1,9 @@
+pub mod Cell
 pub mod Interpreter
 pub mod Listing
 pub mod Refusal
 pub mod Script
 pub mod Session
 pub mod State
-pub mod Stored
 pub mod Turn
 pub mod commands

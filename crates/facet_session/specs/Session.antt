@@ -1,9 +1,10 @@
 -- A session against the interpreter's state.
-use Rattle.std.specs.Prelude.{◌≡◌, List, [], ◌∷◌, length, Contains}
+use Rattle.std.specs.Prelude.{◌≡◌, ◌<◌, List, [], ◌∷◌, length, Contains}
 use Rattle.facet_block.specs.Block.{size_of}
 use Rattle.facet_leaf.specs.LeafModel.{LeafModel}
 use Rattle.facet_shapes.specs.Prelude.{prelude}
 use Rattle.facet_shapes.specs.Registry.{Registry, size_at}
+use Rattle.facet_values.specs.Place.{start_of}
 use Rattle.facet_values.specs.Reading.{Reads}
 use Rattle.facet_session.specs.declared.session.Session.{Session}
 use Rattle.facet_session.specs.declared.session.Cell.{Cell}
@@ -12,12 +13,13 @@ use Rattle.facet_session.specs.State.{Entry, State}
 use Rattle.facet_session.specs.Turn.{Turn, text_of}
 
 module _ {L : Type 0} (m : LeafModel L) where
-  -- a cell has the name and the shape of an entry, and its block, of the shape's size, reads from 0 as the entry's value
+  -- a cell has the name and the shape of an entry, which is sealed, and its block, of the shape's size, reads from 0 as the entry's value
   pub record ShowsEntry (registry : Registry) (cell : Cell L) (entry : Entry L) : Type 0 where
     pub name : cell.name ≡ entry.name
     pub shape : cell.shape.0 ≡ entry.shape
+    pub sealed : entry.shape < registry.sealed
     pub size : size_of cell.block ≡ size_at registry entry.shape
-    pub reads : Reads m registry (record { shape = entry.shape; block = cell.block; offset = 0 }) entry.value
+    pub reads : Reads m registry (start_of entry.shape cell.block) entry.value
 
   -- the cells do so, each at its turn
   abbrev pub ShowEntries : Registry → List (Cell L) → List (Entry L) → Type 0

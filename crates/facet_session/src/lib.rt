@@ -5,16 +5,13 @@
 mod cells;
 mod commands;
 mod conditions;
-mod laws;
+/// The laws of answers and of the balance of leaves.
+pub mod laws;
 mod refusal;
 mod session;
 mod stepping;
 mod writing;
 
-pub use facet_grammar::{
-    Command, commands_are_spelled, commands_are_texts, forms_are_inverse, read_command,
-    spellings_are_read,
-};
-pub use laws::{answers_are_one_line, balance, nothing_held};
+pub use facet_grammar::{Command, read_command};
 pub use session::{Answer, Cell, Session};
 pub use stepping::{finish, step};

@@ -42,7 +42,7 @@ impl<L: Leaf> Session<L> {
         })
     }
 
-    /// Whether it is as `new` gives it.
+    /// Whether it is as `new` returns it.
     pub fn is_new(&self) -> bool
         ensures { IsTrue result ↔ IsNew L.model self.now }
     {

@@ -1,13 +1,13 @@
 ghost use Rattle.std.specs.Prelude.{◌≡◌, ◌++◌, ◌∷◌, [], ℕ, List, All, Bool, IfOk, OnOk, codes};
 ghost use Rattle.std.specs.Str.{IsUtf8};
+ghost use Rattle.facet_session.specs.Cell.{HoldsValue, stored_in, stored_in_all};
 ghost use Rattle.facet_session.specs.Listing.{rest_listed};
-ghost use Rattle.facet_session.specs.Stored.{stored_in, stored_in_all, IsFilled};
 ghost use Rattle.facet_session.specs.Turn.{listed};
 
-use crate::cells::leaf_in;
 use crate::session::Cell;
 use facet_base::Text;
-use facet_block::Leaf;
+use facet_block::{Leaf, PtrConst};
+use facet_make::leaf_at;
 use facet_shapes::Shapes;
 use std::alloc::{AllocError, Global};
 
@@ -27,7 +27,7 @@ pub fn text_of_end<L: Leaf>(
     shapes: &Shapes<L>,
     cells: &[Cell<L>],
 ) -> Result<Text, AllocError>
-    requires { All (IsFilled shapes.now) cells.now }
+    requires { All (HoldsValue L.model shapes.now) cells.now }
     ensures { IfOk result (λ text. text ≡ codes "end" ++ listed L.model (codes " dropped [") (stored_in_all shapes.now cells.now)) }
 {
     let mut bytes = Vec::new(alloc);
@@ -49,12 +49,12 @@ fn push_stored<L: Leaf>(
     cell: &Cell<L>,
     some: bool,
 ) -> Result<bool, AllocError>
-    requires { IsFilled shapes.now cell.now }
+    requires { HoldsValue L.model shapes.now cell.now }
     ensures written { IfOk result (λ now. (xs : List L) → bytes.new.items ++ rest_listed L.model (codes " dropped [") now xs
         ≡ bytes.old.items ++ rest_listed L.model (codes " dropped [") some (stored_in shapes.now cell.now ++ xs)) }
     ensures utf8 { OnOk result (IsUtf8 bytes.old.items → IsUtf8 bytes.new.items) }
 {
-    match leaf_in(shapes, cell) {
+    match leaf_at(shapes, cell.shape, PtrConst::new(&cell.block, 0)) {
         None => Ok(some),
         Some(leaf) => {
             let label = if some { ", " } else { " dropped [" };

@@ -4,7 +4,8 @@ use Rattle.std.specs.Option.{option_map_or}
 use Rattle.facet_base.specs.declared.characteristic.Characteristic.{Characteristic}
 use Rattle.facet_base.specs.declared.characteristic.Characteristic.TheVariants.{Clone, Display, Debug, PartialEq, PartialOrd, Ord, Hash, Default, FromStr}
 use Rattle.facet_caps.specs.declared.type_ops.TypeOpsDirect.{TypeOpsDirect}
-use Rattle.facet_caps.specs.Erased.{capabilities_of, operations_of}
+use Rattle.facet_caps.specs.TypeOps.{operations_of}
+use Rattle.facet_caps.specs.VTableErased.{capabilities_of}
 use Rattle.facet_shape.specs.declared.shape.Shape.{Shape}
 
 -- that operation of the type is there; none is where the shape has no operations

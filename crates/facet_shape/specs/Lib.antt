@@ -1,5 +1,5 @@
-pub mod Built
 pub mod Capability
-pub mod Kind
-pub mod Memory
+pub mod Def
+pub mod ShapeBuilder
+pub mod Ty
 pub mod WithoutSpare

@@ -1,5 +1,5 @@
--- Shapes with each list compared by its items: how much room a list has for more is no part of what is described.
-use Rattle.facet_base.specs.Kept.{without_spare}
+-- Shapes with each list compared by its items: its spare capacity is no part of the description.
+use Rattle.facet_base.specs.Many.{without_spare}
 use Rattle.facet_desc.specs.WithoutSpare.{ty_without_spare}
 use Rattle.facet_shape.specs.declared.shape.Shape.{Shape}
 

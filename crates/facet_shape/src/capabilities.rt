@@ -33,14 +33,14 @@ impl Shape {
         self.is(Characteristic::Clone)
     }
 
-    /// Whether its values can be written for users.
+    /// Whether its values have a `Display` text.
     pub fn is_display(&self) -> bool
         ensures { result ≡ can self.now Characteristic.Display }
     {
         self.is(Characteristic::Display)
     }
 
-    /// Whether its values can be written for programmers.
+    /// Whether its values have a `Debug` text.
     pub fn is_debug(&self) -> bool
         ensures { result ≡ can self.now Characteristic.Debug }
     {

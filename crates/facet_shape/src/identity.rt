@@ -1,17 +1,10 @@
 ghost use Rattle.std.specs.Prelude.{◌≡◌, ◌==◌, None, Some, if◌then◌else◌};
 ghost use Rattle.std.specs.Result.{result_err};
 
+use crate::errors::ShapeMismatch;
 use crate::shape::Shape;
-use facet_base::ShapeId;
 use std::cmp::Ordering;
 use std::hash::{Hash, Hasher};
-
-/// Two shapes differ: the ids of the one that was asked and of the other.
-#[derive(Drop)]
-pub struct ShapeMismatch {
-    pub left: ShapeId,
-    pub right: ShapeId,
-}
 
 impl Shape {
     /// Whether both are one shape, which is to have one id.

@@ -1,7 +1,8 @@
 ghost use Rattle.std.specs.Prelude.{◌≡◌, ◌||◌, None, codes};
 ghost use Rattle.facet_base.specs.Flags.{contains_flag};
 ghost use Rattle.facet_desc.specs.Attribute.{has_attribute};
-ghost use Rattle.facet_shape.specs.Kind.{is_cow_enum, is_primitive, is_slice_builder, is_transparent_struct};
+ghost use Rattle.facet_shape.specs.Def.{is_slice_builder};
+ghost use Rattle.facet_shape.specs.Ty.{is_cow_enum, is_primitive, is_transparent_struct};
 
 use crate::shape::Shape;
 use facet_base::{Flags, ShapeFlags};
@@ -20,7 +21,7 @@ impl Shape {
     }
 
     /// Whether it stands for the one value that it wraps: by the builtin attribute `transparent`, or as a
-    /// struct that lies in memory as that value does.
+    /// struct of that value's representation.
     pub fn is_transparent(&self) -> bool
         ensures { result ≡ (has_attribute None (codes "transparent") self.now.attributes.items || is_transparent_struct self.now.ty) }
     {
@@ -48,7 +49,7 @@ impl Shape {
         self.flags.contains(ShapeFlags::METADATA_CONTAINER)
     }
 
-    /// Whether any values of its parts make a value of it: as a primitive type, or as noted.
+    /// Whether any values of its parts make a value of it: as a primitive type, or by the flag `POD`.
     pub fn is_pod(&self) -> bool
         ensures { result ≡ (is_primitive self.now.ty || contains_flag self.now.flags.bits ShapeFlags.POD.bits) }
     {
@@ -66,7 +67,7 @@ impl Shape {
     }
 }
 
-// Whether it is a struct that lies in memory as its one field with a size does.
+// Whether it is a struct of the representation of its only field with a size.
 fn has_transparent_struct(ty: &Ty) -> bool
     ensures { result ≡ is_transparent_struct ty.now }
 {

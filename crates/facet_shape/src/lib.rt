@@ -1,22 +1,18 @@
-//! The shape of one type: what is known of it, how it is built, and what it answers.
+//! The shape of one type: what is known of it, how it is built, and its accessors.
 #![tactic(auto)]
 
 mod attributes;
 mod capabilities;
+mod errors;
 mod identity;
 mod kind;
 mod memory;
-mod missing_decl_id;
 mod proxies;
 mod scalar;
 mod shape;
 mod shape_builder;
-#[cfg(test)]
-mod tests;
 
-pub use identity::ShapeMismatch;
-pub use memory::AllocateError;
-pub use missing_decl_id::MissingDeclId;
+pub use errors::{AllocateError, MissingDeclId, ShapeMismatch};
 pub use scalar::try_from_shape;
 pub use shape::{Shape, UNSIZED_LAYOUT};
 pub use shape_builder::ShapeBuilder;

@@ -1,21 +1,13 @@
 ghost use Rattle.std.specs.Prelude.{◌≡◌, ◌↔◌, Some, IfOk, IsErr, IsErrOf, option_map};
 ghost use Rattle.facet_block.specs.Block.{empty_block, size_of};
 ghost use Rattle.facet_block.specs.Span.{span, IsEmptyIn};
-ghost use Rattle.facet_shape.specs.Memory.{size_in_bytes};
+ghost use Rattle.facet_base.specs.ShapeLayout.{size_in_bytes};
 
+use crate::errors::AllocateError;
 use crate::shape::Shape;
 use facet_base::{ShapeLayout, UnsizedError};
 use facet_block::{Block, alloc_for_layout, dealloc_for_layout};
 use std::alloc::Global;
-
-/// Why there is no block for a value.
-#[derive(Drop)]
-pub enum AllocateError {
-    /// The values of the shape share no layout.
-    Unsized,
-    /// There is no memory.
-    NoMemory,
-}
 
 impl Shape {
     /// A block for one value, of the shape's size and with no item.
@@ -26,13 +18,10 @@ impl Shape {
         let ShapeLayout::Sized(layout) = self.layout else {
             return Err(AllocateError::Unsized);
         };
-        match alloc_for_layout(alloc, layout) {
-            Ok(block) => Ok(block),
-            Err(_) => Err(AllocateError::NoMemory),
-        }
+        alloc_for_layout(alloc, layout).map_err(|_| AllocateError::NoMemory)
     }
 
-    /// Gives the memory of a block with no item back, whatever the answer. It is refused exactly for an unsized shape.
+    /// Frees a block with no item. Err comes exactly for an unsized shape, and the block is freed then too.
     pub fn deallocate<L: Drop>(&self, block: Block<L>) -> Result<(), UnsizedError>
         requires { IsEmptyIn block (span 0 (size_of block)) }
         ensures { IsErr result ↔ (self.now.layout ≡ ShapeLayout.Unsized) }

@@ -1,6 +1,6 @@
 ghost use Rattle.facet_base.specs.declared.layout.ShapeLayout.TheVariants.{Sized, Unsized};
 ghost use Rattle.std.specs.Prelude.{◌≡◌};
-ghost use Rattle.facet_shape.specs.Built.{fresh_shape};
+ghost use Rattle.facet_shape.specs.ShapeBuilder.{fresh_shape};
 ghost use Rattle.facet_shape.specs.WithoutSpare.{shape_without_spare};
 
 use crate::shape_builder::ShapeBuilder;
@@ -16,7 +16,7 @@ use std::alloc::Global;
 /// The layout of a type whose values share none.
 pub const UNSIZED_LAYOUT: ShapeLayout = ShapeLayout::Unsized;
 
-/// What is known of a type. Sizes and offsets are in bytes. The id is 0 until a registry gives it one.
+/// What is known of a type. Sizes and offsets are in bytes. The id is 0 until a registry assigns one.
 #[derive(Drop)]
 pub struct Shape {
     pub id: ShapeId,

@@ -1,13 +1,13 @@
 ghost use Rattle.std.specs.Prelude.{◌≡◌, option_map};
 ghost use Rattle.std.specs.Result.{result_ok};
 ghost use Rattle.facet_base.specs.declared.layout.ShapeLayout.TheVariants.{Sized, Unsized};
-ghost use Rattle.facet_shape.specs.Built.{built, declared_id, fresh_shape as fresh, has_parameters, hashed_id, with_resolved_type};
+ghost use Rattle.facet_shape.specs.ShapeBuilder.{built, declared_id, fresh_shape as fresh, has_parameters, hashed_id, with_resolved_type};
 ghost use Rattle.facet_shape.specs.WithoutSpare.{shape_without_spare};
 
 mod flags;
 mod members;
 
-use crate::missing_decl_id::MissingDeclId;
+use crate::errors::MissingDeclId;
 use crate::shape::{Shape, UNSIZED_LAYOUT};
 use facet_base::{
     DeclId, Flags, Layout, Many, MarkerTraits, ShapeFlags, ShapeId, ShapeLayout, Text,
@@ -54,9 +54,9 @@ impl ShapeBuilder {
         }
     }
 
-    /// The shape as it was built, with the definition's default type in place of an undefined one, and with the
-    /// number of its declaration. It is refused exactly where that number is 0, there are parameters, and the
-    /// module path is missing.
+    /// The shape as it was built, with the definition's default type in place of an undefined one, and with its
+    /// declaration id. It is refused exactly where that id is 0, there are parameters, and the module path is
+    /// missing.
     pub fn build(self) -> Result<Shape, MissingDeclId>
         ensures { result_ok result ≡ built self }
     {
@@ -72,7 +72,7 @@ impl ShapeBuilder {
 }
 
 // The shape of this identifier and layout, with nothing else set.
-#[tactic(auto, unfolding(crate::specs::Built::fresh_shape))]
+#[tactic(auto, unfolding(crate::specs::ShapeBuilder::fresh_shape))]
 fn fresh_shape(alloc: Global, type_identifier: Text, layout: ShapeLayout) -> Shape
     ensures { shape_without_spare result ≡ fresh type_identifier layout }
 {
@@ -120,7 +120,7 @@ fn resolve_type(mut shape: Shape) -> Shape
     shape
 }
 
-// The number of the declaration of a shape whose type is resolved.
+// The declaration id of a shape whose type is resolved.
 fn find_decl_id(shape: &Shape) -> Option<DeclId>
     ensures { option_map (λ id. id.0) result ≡ declared_id shape.now }
 {
@@ -131,7 +131,7 @@ fn find_decl_id(shape: &Shape) -> Option<DeclId>
     }
 }
 
-// The hash that numbers the declaration where no number is given.
+// The hash that is the declaration id where none is given.
 fn hash_decl_id(shape: &Shape) -> Option<u128>
     ensures { result ≡ hashed_id shape.now }
 {

@@ -7,9 +7,9 @@ use Rattle.facet_base.specs.declared.scalar_type.ScalarType.{ScalarType}
 use Rattle.facet_base.specs.declared.scalar_type.ScalarType.TheVariants as scalar
 use Rattle.facet_def.specs.declared.def.Def.TheVariants as def
 use Rattle.facet_leaf.specs.LeafModel.{LeafModel}
-use Rattle.facet_shape.specs.Built.{fresh_shape}
+use Rattle.facet_shape.specs.ShapeBuilder.{fresh_shape}
 use Rattle.facet_shape.specs.Capability.{can}
-use Rattle.facet_shape.specs.Memory.{size_in_bytes}
+use Rattle.facet_base.specs.ShapeLayout.{size_in_bytes}
 use Rattle.facet_shape.specs.declared.shape.Shape.{Shape}
 use Rattle.facet_shapes.specs.declared.value_kind.ValueKind.TheVariants as kind
 use Rattle.facet_shapes.specs.Prelude.{prelude, prelude_kinds, scalar_layout, scalar_shape, scalar_shapes, scalar_ty}

@@ -8,7 +8,7 @@ use Rattle.facet_base.specs.declared.layout.ShapeLayout.{ShapeLayout}
 use Rattle.facet_base.specs.declared.layout.ShapeLayout.TheVariants as layout
 use Rattle.facet_base.specs.declared.scalar_type.ScalarType.{ScalarType}
 use Rattle.facet_base.specs.declared.scalar_type.ScalarType.TheVariants as scalar
-use Rattle.facet_caps.specs.Empty.{empty_direct}
+use Rattle.facet_caps.specs.EmptyRecords.{empty_direct}
 use Rattle.facet_caps.specs.declared.type_ops.TypeOps.TheVariants as ops
 use Rattle.facet_caps.specs.declared.type_ops.TypeOpsDirect.{TypeOpsDirect}
 use Rattle.facet_caps.specs.declared.vtable.VTableDirect.{VTableDirect}
@@ -22,7 +22,7 @@ use Rattle.facet_desc.specs.declared.ty.Ty.TheVariants as ty
 use Rattle.facet_desc.specs.declared.ty.UserType.TheVariants as user
 use Rattle.facet_leaf.specs.LeafModel.{LeafModel}
 use Rattle.facet_leaf.specs.declared.hook.LeafHook.TheVariants as hook
-use Rattle.facet_shape.specs.Built.{fresh_shape}
+use Rattle.facet_shape.specs.ShapeBuilder.{fresh_shape}
 use Rattle.facet_shape.specs.declared.shape.Shape.{Shape}
 use Rattle.facet_shapes.specs.Registry.{Registry}
 
@@ -92,7 +92,7 @@ prelude_kinds =
     ∷ []
 
 module _ {L : Type 0} (m : LeafModel L) where
-  -- what can be asked of the scalars of a kind: of the unit its equality, order, hash and debug text, of leaves what their model says
+  -- what can be asked of the scalars of a kind: of the unit its equality, order, hash and debug text, of leaves what the leaf semantics say
   abbrev pub scalar_vtable : ScalarType → VTableDirect
   scalar_vtable scalar.Unit = record empty_direct { debug = true; hash = true; partial_eq = true; partial_cmp = true; cmp = true }
   scalar_vtable k =
@@ -114,6 +114,20 @@ module _ {L : Type 0} (m : LeafModel L) where
   scalar_ops scalar.Unit = record { drop_in_place = false; default_in_place = true; clone_into = true; is_truthy = false }
   scalar_ops k =
       record { drop_in_place = false; default_in_place = m.can k trait.Default; clone_into = m.can k trait.Clone; is_truthy = m.hook k hook.Truthy }
+
+  -- a shape with the members of the scalars of a kind
+  abbrev pub with_scalar : ScalarType → Shape → Shape
+  with_scalar k s =
+      record s {
+        layout = scalar_layout k;
+        vtable = erased.Direct (scalar_vtable k);
+        type_ops = Some (ops.Direct (scalar_ops k));
+        marker_traits = record { bits = scalar_markers k };
+        ty = scalar_ty k;
+        def = def.Scalar;
+        scalar = Some k;
+        module_path = option_or (scalar_module k) s.module_path;
+      }
 
   -- the shape of the scalars of a kind, under an id: what follows from the kind, and nothing else set
   unfoldable pub scalar_shape : ℕ → ScalarType → Shape

@@ -3,7 +3,7 @@ use Rattle.std.specs.Prelude.{ℕ, Bool, false, List, [], ◌∷◌, ◌++◌, O
 use Rattle.facet_base.specs.declared.characteristic.Characteristic.{Characteristic}
 use Rattle.facet_shape.specs.declared.shape.Shape.{Shape}
 use Rattle.facet_shape.specs.Capability.{can}
-use Rattle.facet_shape.specs.Memory.{size_in_bytes}
+use Rattle.facet_base.specs.ShapeLayout.{size_in_bytes}
 use Rattle.facet_shape.specs.WithoutSpare.{shape_without_spare}
 use Rattle.facet_shapes.specs.declared.value_kind.ValueKind.{ValueKind}
 use Rattle.facet_shapes.specs.declared.value_kind.ValueKind.TheVariants as kind

@@ -5,8 +5,6 @@ mod capability;
 mod registry;
 mod scalar_shape;
 mod shape_list;
-#[cfg(test)]
-mod tests;
 mod value_kind;
 
 pub use capability::{

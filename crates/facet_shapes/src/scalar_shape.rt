@@ -1,6 +1,6 @@
 ghost use Rattle.std.specs.Prelude.{◌≡◌, IfOk};
 ghost use Rattle.facet_shape.specs.WithoutSpare.{shape_without_spare};
-ghost use Rattle.facet_shapes.specs.Prelude.{whole, scalar_ty, scalar_markers, scalar_layout, in_module, sized as sized_layout, scalar_vtable as vtable_of, scalar_ops as ops_of, scalar_shape as shape_of};
+ghost use Rattle.facet_shapes.specs.Prelude.{whole, scalar_ty, scalar_markers, scalar_layout, in_module, sized as sized_layout, scalar_vtable as vtable_of, scalar_ops as ops_of, with_scalar, scalar_shape as shape_of};
 
 use facet_base::{
     Characteristic, Flags, Layout, MarkerTraits, ScalarType, ShapeId, ShapeLayout, Text,
@@ -21,7 +21,22 @@ pub fn scalar_shape<L: Leaf>(
     ensures { IfOk result (λ shape. shape_without_spare shape ≡ shape_of L.model id.0 kind) }
 {
     let identifier = Text::new(alloc, kind.identifier())?;
-    let builder = ShapeBuilder::for_unsized(alloc, identifier)
+    let fresh = ShapeBuilder::for_unsized(alloc, identifier);
+    match described::<L>(alloc, fresh, kind)?.build() {
+        Ok(shape) => Ok(Shape { id, ..shape }),
+        Err(_) => unreachable!(),
+    }
+}
+
+// The builder with the members of the scalars of a kind.
+fn described<L: Leaf>(
+    alloc: Global,
+    builder: ShapeBuilder,
+    kind: ScalarType,
+) -> Result<ShapeBuilder, AllocError>
+    ensures { IfOk result (λ shape. shape ≡ with_scalar L.model kind builder) }
+{
+    let builder = builder
         .layout(layout(kind))
         .vtable_direct(scalar_vtable::<L>(kind))
         .type_ops_direct(scalar_ops::<L>(kind))
@@ -29,10 +44,7 @@ pub fn scalar_shape<L: Leaf>(
         .ty(scalar_type(kind))
         .def(Def::Scalar)
         .scalar(kind);
-    match with_module(alloc, builder, kind)?.build() {
-        Ok(shape) => Ok(Shape { id, ..shape }),
-        Err(_) => unreachable!(),
-    }
+    with_module(alloc, builder, kind)
 }
 
 // The layout of the scalars of a kind.

@@ -1,3 +1,3 @@
 pub mod Causes
-pub mod List
+pub mod ListStreams
 pub mod Stream

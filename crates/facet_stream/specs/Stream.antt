@@ -1,4 +1,4 @@
--- What a sink takes of a piece that is handed to it.
+-- What a sink takes of a piece.
 use Rattle.std.specs.Prelude.{ℕ, ◌<◌, List, length, Result, IfOk}
 
 -- of a piece that isn't empty at least one byte is taken

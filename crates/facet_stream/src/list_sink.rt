@@ -1,5 +1,5 @@
 ghost use Rattle.std.specs.Prelude.{Some, ◌≡◌, ◌<◌, ◌↔◌, ◌⊎◌, [], IsErr, IfOk, OnErr, length, take};
-ghost use Rattle.facet_stream.specs.List.{IsListed, IsPastRoom, write_count, after_write, after_failed_write};
+ghost use Rattle.facet_stream.specs.ListStreams.{IsListed, IsPastRoom, write_count, after_write, after_failed_write};
 
 use crate::{Failed, Sink};
 use facet_base::Many;
@@ -20,7 +20,7 @@ pub struct ListSink {
 
 impl Model for ListSink {
     ghost use Rattle.std.specs.Prelude.{◌≤◌, ◌<◌, vec_len, vec_capacity};
-    ghost use Rattle.facet_stream.specs.List.{Store};
+    ghost use Rattle.facet_stream.specs.ListStreams.{Store};
 
     ghost Value = { Store };
 

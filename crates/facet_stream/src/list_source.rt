@@ -1,5 +1,5 @@
 ghost use Rattle.std.specs.Prelude.{Some, ◌≡◌, ◌<◌, ◌↔◌, min, IsErr, IfOk, OnErr, length, take, drop, ◌++◌};
-ghost use Rattle.facet_stream.specs.List.{IsListed, read_count, after_read, after_failed_read};
+ghost use Rattle.facet_stream.specs.ListStreams.{IsListed, read_count, after_read, after_failed_read};
 
 use crate::{Failed, Source};
 use facet_base::Many;
@@ -19,7 +19,7 @@ pub struct ListSource {
 
 impl Model for ListSource {
     ghost use Rattle.std.specs.Prelude.{◌≤◌, ◌<◌, drop, vec_len};
-    ghost use Rattle.facet_stream.specs.List.{Supply};
+    ghost use Rattle.facet_stream.specs.ListStreams.{Supply};
 
     ghost Value = { Supply };
 

@@ -11,7 +11,7 @@ fn only(alloc: Global, call: usize) -> Result<Many<usize>, AllocError> {
 }
 
 #[test]
-fn a_source_gives_its_bytes_and_fails_at_the_second_call(rt: HostRuntime) -> Result<(), Fail> {
+fn a_source_returns_its_bytes_and_fails_at_the_second_call(rt: HostRuntime) -> Result<(), Fail> {
     let alloc = rt.alloc();
     let bytes = b"abcde".to_vec(alloc)?;
     let mut source = ListSource::new(bytes, only(alloc, 2)?, 4);

@@ -1,3 +1,4 @@
-pub mod Leaves
-mod Readings
-mod Ranges
+pub mod LeafReading
+mod OneReading
+pub mod ReadablePlaces
+mod SameReading

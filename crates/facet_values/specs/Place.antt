@@ -14,9 +14,13 @@ pub record Place (L : Type 0) : Type 0 where
 abbrev pub item_behind : {L : Type 0} → Place L → ℕ → Option (Item L)
 item_behind p i = item_at p.block (p.offset + i)
 
+-- an offset in a block, read by a shape
+abbrev pub place_in : {L : Type 0} → ℕ → Block L → ℕ → Place L
+place_in s block at = record { shape = s; block = block; offset = at }
+
 -- the start of a block, read by a shape
 abbrev pub start_of : {L : Type 0} → ℕ → Block L → Place L
-start_of s block = record { shape = s; block = block; offset = 0 }
+start_of s block = place_in s block 0
 
 -- the block of a size in bytes with a leaf at its start, and nothing else
 abbrev pub leaf_block : {L : Type 0} → ℕ → L → Block L

@@ -47,6 +47,11 @@ module _ {L : Type 0} (m : LeafModel L) where
       ReadAll (p ∷ ps) (more v vs) = Reads p v × ReadAll ps vs
       ReadAll _ _ = ⊥
 
+    -- the place reads as some value
+    pub record IsReadable (p : Place L) : Type 0 where
+      pub value : Value L
+      pub reads : Reads p value
+
 -- the second place has the shape of the first, holds the same in its range, and its range lies in its block
 pub record HoldsSame {L : Type 0} (registry : Registry) (p q : Place L) : Type 0 where
   pub shape : p.shape ≡ q.shape

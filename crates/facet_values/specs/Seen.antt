@@ -27,3 +27,12 @@ seen_kind _ found = no_value
 
 unfoldable pub seen : {L : Type 0} → Registry → Place L → Seen L
 seen registry p = seen_kind (kind_at registry p.shape) (item_at p.block p.offset)
+
+-- the leaf that the value begun so is, where it is one
+abbrev pub leaf_of_seen : {L : Type 0} → Seen L → Option L
+leaf_of_seen (a_leaf x) = Some x
+leaf_of_seen _ = None
+
+-- the leaf that the value at a place is, where it is one
+abbrev pub leaf_at : {L : Type 0} → Registry → Place L → Option L
+leaf_at registry p = leaf_of_seen (seen registry p)

@@ -2,7 +2,7 @@
 #![tactic(auto)]
 
 mod form;
-mod laws;
+/// The laws of reading.
+pub mod laws;
 
 pub use form::Form;
-pub use laws::{leaf_reading, one_reading, same_reading};

@@ -1,2 +1,2 @@
-pub mod Fault
-pub mod Standard
+pub mod MainFault
+pub mod Tally

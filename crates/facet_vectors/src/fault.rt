@@ -16,14 +16,14 @@ pub enum MainFault {
     /// Standard input has more bytes than a script may have.
     #[error("input too long")]
     TooLong,
-    /// There was no memory.
+    /// Out of memory.
     #[error("no memory")]
     NoMemory,
 }
 
 impl MainFault {
     ghost use Rattle.std.specs.Prelude.{◌≡◌};
-    ghost use Rattle.facet_vectors.specs.Fault.{exit_status, fault_of};
+    ghost use Rattle.facet_vectors.specs.MainFault.{exit_status, fault_of};
 
     /// The fault that a status is, and none for a run that ended well.
     pub fn of(status: Status) -> Option<MainFault>

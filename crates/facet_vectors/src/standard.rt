@@ -17,7 +17,7 @@ pub struct StdinSource {
 }
 
 impl Model for StdinSource {
-    ghost use Rattle.facet_vectors.specs.Standard.{Tally};
+    ghost use Rattle.facet_vectors.specs.Tally.{Tally};
 
     ghost Value = { Tally };
 

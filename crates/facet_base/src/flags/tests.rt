@@ -1,14 +1,15 @@
 ghost use Rattle.facet_base.specs.Flags.{IsDifference};
 
-use crate::flags::{
-    FieldFlags, MarkerTraits, PointerFlags, ShapeFlags, bits_of_their_set, contains_by_bits,
-    insert_by_bits, intersection_by_bits, remove_by_bits, set_of_its_bits, union_by_bits,
+use crate::flags::{FieldFlags, MarkerTraits, PointerFlags, ShapeFlags};
+use crate::laws::{
+    bits_of_their_set, contains_by_bits, insert_by_bits, intersection_by_bits, remove_by_bits,
+    set_of_its_bits, union_by_bits,
 };
 use bitflags::Flags;
 use std::alloc::{AllocError, Global};
 use std::fmt;
 
-// The constants and the defaults of the flag sets, with their numbers.
+// The constants and the defaults of the flag sets, with their bits.
 fn constants() -> [(u16, u16); 26] {
     [
         (u16::from(MarkerTraits::COPY.bits()), 1),
@@ -40,7 +41,7 @@ fn constants() -> [(u16, u16); 26] {
     ]
 }
 
-// What each operator returns, with its number.
+// What each operator returns, with its bits.
 fn operations() -> [(u16, u16); 8] {
     let both = FieldFlags::SENSITIVE | FieldFlags::SKIP_SERIALIZING;
     let mut joined = FieldFlags::SENSITIVE;
@@ -79,7 +80,7 @@ fn difference_of_sixteen_bits(set: FieldFlags, other: FieldFlags) -> FieldFlags
     rest
 }
 
-// What each call on sets returns, with its number.
+// What each call on sets returns, with its bits.
 fn calls() -> [(u16, u16); 8] {
     let mut set = union_by_bits(FieldFlags::SKIP, FieldFlags::CHILD);
     insert_by_bits(&mut set, FieldFlags::FLATTEN);
@@ -104,15 +105,15 @@ fn calls() -> [(u16, u16); 8] {
 }
 
 #[test]
-fn constants_and_calls_have_their_numbers(rt: HostRuntime) {
-    for (bits, number) in constants() {
-        assert_eq!(rt; bits, number);
+fn constants_and_calls_have_their_bits(rt: HostRuntime) {
+    for (bits, expected) in constants() {
+        assert_eq!(rt; bits, expected);
     }
-    for (bits, number) in operations() {
-        assert_eq!(rt; bits, number);
+    for (bits, expected) in operations() {
+        assert_eq!(rt; bits, expected);
     }
-    for (bits, number) in calls() {
-        assert_eq!(rt; bits, number);
+    for (bits, expected) in calls() {
+        assert_eq!(rt; bits, expected);
     }
 }
 

@@ -42,7 +42,7 @@ fn indirect(vtable: VTableDirect) -> VTableIndirect {
     }
 }
 
-fn answers(erased: &VTableErased) -> [bool; 11] {
+fn questions(erased: &VTableErased) -> [bool; 11] {
     [
         erased.has_display(),
         erased.has_debug(),
@@ -58,7 +58,7 @@ fn answers(erased: &VTableErased) -> [bool; 11] {
     ]
 }
 
-// For each member of the record, which of these answers reads it.
+// For each member of the record, which of these questions reads it.
 fn readers() -> [Option<usize>; 12] {
     [
         Some(0),
@@ -80,19 +80,19 @@ fn readers() -> [Option<usize>; 12] {
 fn each_question_reads_its_member_alone(rt: HostRuntime) {
     for (index, reader) in readers().iter().enumerate() {
         let vtable = with_member(index, true).build();
-        let direct = answers(&VTableErased::from(vtable));
-        let generic = answers(&indirect(vtable).into());
-        for answer in 0..11 {
-            let expected = *reader == Some(answer);
+        let direct = questions(&VTableErased::from(vtable));
+        let generic = questions(&indirect(vtable).into());
+        for question in 0..11 {
+            let expected = *reader == Some(question);
             assert_eq!(rt;
-                direct[answer],
+                direct[question],
                 expected,
-                "question {answer} of member {index}"
+                "question {question} of member {index}"
             );
             assert_eq!(rt;
-                generic[answer],
+                generic[question],
                 expected,
-                "question {answer} of generic member {index}"
+                "question {question} of generic member {index}"
             );
         }
     }
@@ -110,7 +110,7 @@ fn an_optional_setter_sets_and_unsets(rt: HostRuntime) {
     let vtable = set.debug_opt(false).cmp_opt(false).build();
     assert_eq!(rt; vtable.try_into_inner, false);
     assert_eq!(rt;
-        answers(&vtable.into()),
+        questions(&vtable.into()),
         [
             true, false, true, true, true, false, false, false, false, false, false
         ]
@@ -137,10 +137,10 @@ fn pointer_members(pointer: PointerVTable) -> [bool; 8] {
 #[test]
 fn defaults_have_no_member(rt: HostRuntime) {
     let none = [false; 11];
-    assert_eq!(rt; answers(&default_of::<VTableDirect>().into()), none);
-    assert_eq!(rt; answers(&default_of::<VTableIndirect>().into()), none);
-    assert_eq!(rt; answers(&VTableIndirect::EMPTY.into()), none);
-    assert_eq!(rt; answers(&VTableDirect::builder().into()), none);
+    assert_eq!(rt; questions(&default_of::<VTableDirect>().into()), none);
+    assert_eq!(rt; questions(&default_of::<VTableIndirect>().into()), none);
+    assert_eq!(rt; questions(&VTableIndirect::EMPTY.into()), none);
+    assert_eq!(rt; questions(&VTableDirect::builder().into()), none);
     let pointer = default_of::<PointerVTable>();
     assert_eq!(rt; pointer_members(pointer), [false; 8]);
 }

@@ -1,9 +1,9 @@
-use crate::fnv::Fnv128;
-use crate::hash_proxy::HashProxy;
-use crate::hash_sink::HashSink;
+use crate::hashing::fnv::Fnv128;
+use crate::hashing::hash_proxy::HashProxy;
+use crate::hashing::hash_sink::HashSink;
+use crate::hashing::recorder::Recorder;
 use crate::leaf::Leaf;
-use crate::recorder::Recorder;
-use crate::scalar::Scalar;
+use crate::scalars::scalar::Scalar;
 use facet_base::Text;
 use std::test::Fail;
 

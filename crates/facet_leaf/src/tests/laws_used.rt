@@ -2,10 +2,10 @@
 //! first line names, save `order_reversed` and `order_equal`: these follow from the laws of the partial order.
 
 ghost use Rattle.std.specs.Prelude.{◌≡◌, IsTrue, IfOk, IfErr, IfSome, IsSome, true, false, Some};
-ghost use Rattle.facet_leaf.specs.HashWrite.{fed_all};
+ghost use Rattle.facet_leaf.specs.hashing.HashWrite.{fed_all};
 
 use crate::conversion::Conversion;
-use crate::hash_sink::HashSink;
+use crate::hashing::hash_sink::HashSink;
 use crate::hook::LeafHook;
 use crate::leaf::Leaf;
 use facet_base::{Characteristic, ScalarType};
@@ -13,7 +13,7 @@ use std::alloc::{AllocError, Global};
 use std::cmp::Ordering;
 
 // stored
-fn is_without_a_place<L: Leaf>(leaf: &L) -> bool
+fn is_of_no_stored_kind<L: Leaf>(leaf: &L) -> bool
     ensures { result ≡ false }
 {
     matches!(leaf.kind(), ScalarType::Unit | ScalarType::Str)

@@ -100,6 +100,7 @@ fn add_leaf<L: Leaf>(
     leaf: L,
 ) -> Result<Answer, AllocError>
     requires empty { session.old.log.leaves ≡ [] }
+    requires sealed { shape.0 < session.old.shapes.sealed }
     requires room { 0 < size_at session.old.shapes shape.0 }
     requires kind { kind_at session.old.shapes shape.0 ≡ ValueKind.Leaf (L.model.kind leaf) }
     ensures turn { IfOk result (λ answer. (state : State L) → Shows L.model session.old state

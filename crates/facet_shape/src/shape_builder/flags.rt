@@ -1,5 +1,5 @@
 ghost use Rattle.std.specs.Prelude.{◌≡◌};
-ghost use Rattle.facet_shape.specs.Built.{with_flag, with_marker};
+ghost use Rattle.facet_shape.specs.ShapeBuilder.{with_flag, with_marker};
 
 use crate::shape_builder::ShapeBuilder;
 use facet_base::{MarkerTraits, ShapeFlags};

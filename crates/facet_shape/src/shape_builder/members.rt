@@ -12,7 +12,7 @@ use facet_def::Def;
 use facet_desc::{Attr, ConstParam, FormatProxy, OpaqueAdapterDef, ProxyDef, Ty, TypeParam};
 
 impl ShapeBuilder {
-    /// Sets the number of the type's declaration.
+    /// Sets the id of the type's declaration.
     pub fn decl_id(mut self, value: DeclId) -> Self
         ensures { result ≡ record self { decl_id = value } }
     {
@@ -168,7 +168,7 @@ impl ShapeBuilder {
         self
     }
 
-    /// Sets the tag by which self-describing formats tell the type.
+    /// Sets the tag by which self-describing formats identify the type.
     pub fn type_tag(mut self, value: Text) -> Self
         ensures { result ≡ record self { type_tag = Some value } }
     {

@@ -1,5 +1,5 @@
 use Rattle.std.proofs.Common.{◌≡◌, ◌+◌, ◌*◌, ◌%◌, ◌^◌, drop, fold}
-use Rattle.facet_base.specs.Tail.{tail_of}
+use Rattle.facet_base.specs.Text.{tail_of}
 use Rattle.facet_base.proofs.text.read_tail.Given as goal
 
 abbrev pub invariant-loop-byte : goal.invariant-loop-byte

@@ -1,5 +1,6 @@
 use Rattle.std.proofs.Common.{◌≡◌, ◌∙◌, sym, ap, arith, length}
-use Rattle.facet_block.specs.Block.{item_kind_at, filled_of}
+use Rattle.facet_block.specs.Block.{item_kind_at}
+use Rattle.facet_block.specs.Seq.{filled_of}
 use Rattle.facet_block.specs.declared.block.ItemKind.TheVariants as kind
 use Rattle.facet_base.proofs.Lists.{All_at}
 use Rattle.facet_block.proofs.Sequences.{changed_blocks, changed_blocks_0, next_block, changed_blocks_more, block_there, changed_blocks_all}

@@ -1,4 +1,4 @@
-use Rattle.facet_grammar.proofs.Encoding.{command_text}
+use Rattle.facet_grammar.proofs.CommandTexts.{command_text}
 use Rattle.facet_grammar.proofs.WordBytes.{test_of_text}
 use Rattle.facet_grammar.proofs.laws.commands_are_texts.Goals as goal
 

@@ -3,7 +3,7 @@ use Rattle.facet_grammar.specs.declared.command.Command.{Command}
 use Rattle.facet_grammar.specs.Grammar.{command_of, read_rows}
 use Rattle.facet_grammar.specs.Rows.{rows}
 use Rattle.facet_grammar.specs.Tokens.{pieces_of}
-use Rattle.facet_grammar.proofs.Encoding.{command_text}
+use Rattle.facet_grammar.proofs.CommandTexts.{command_text}
 use Rattle.facet_grammar.proofs.reading.read_command.Goals as goal
 
 pub returns-in-Ok : goal.returns-in-Ok

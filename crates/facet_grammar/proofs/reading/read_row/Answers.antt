@@ -2,7 +2,7 @@ use Rattle.std.proofs.Common.{◌∙◌}
 use Rattle.std.specs.Option.{option_copied}
 use Rattle.facet_grammar.specs.Rows.{form_of}
 use Rattle.facet_grammar.specs.Tokens.{pieces_behind}
-use Rattle.facet_grammar.proofs.Walking.{read_by, read_kinds, row_made, same_word}
+use Rattle.facet_grammar.proofs.ReadingLoops.{read_by, read_kinds, row_made, same_word}
 use Rattle.facet_grammar.proofs.reading.read_row.Goals as goal
 
 pub command_from-requires : goal.command_from-requires

@@ -1,6 +1,6 @@
 use Rattle.std.proofs.Common.{ap, arith}
 use Rattle.std.specs.Option.{option_copied}
-use Rattle.facet_grammar.proofs.Walking.{some_left, none_left}
+use Rattle.facet_grammar.proofs.ReadingLoops.{some_left, none_left}
 use Rattle.facet_grammar.proofs.reading.read_tokens.Goals as goal
 
 pub returns-in-Some-rest : goal.returns-in-Some-rest

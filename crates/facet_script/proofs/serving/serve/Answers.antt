@@ -9,8 +9,9 @@ finish-requires g c = record { state = after g.L.Leaf.model c.args.script.now c.
 
 pub returns-in-Err-finish-clause-served : goal.returns-in-Err-finish-clause-served
 returns-in-Err-finish-clause-served g c =
-    out_of_memory g.L.Leaf.model c.args.script.now c.in-Ok.lines (last (after g.L.Leaf.model c.args.script.now c.in-Ok.lines)) _ _ _ _ c.finish.new.session
-    c.in-Ok.ensures.progress c.in-Err-finish.ensures.err c.in-Err-finish.ensures.cleared
+    rw c.out_of_memory.ensures
+    (out_of_memory g.L.Leaf.model c.args.script.now c.in-Ok.lines (last (after g.L.Leaf.model c.args.script.now c.in-Ok.lines)) _ _ _ _ c.finish.new.session
+    c.in-Ok.ensures.progress c.in-Err-finish.ensures.err c.in-Err-finish.ensures.cleared)
 
 pub returns-in-Ok-write_line-clause-served : goal.returns-in-Ok-write_line-clause-served
 returns-in-Ok-write_line-clause-served g c =
@@ -25,5 +26,5 @@ returns-in-Ok-write_line-clause-dropped g c ok =
 pub returns-in-Err-write_line-clause-served : goal.returns-in-Err-write_line-clause-served
 returns-in-Err-write_line-clause-served g c =
     let progress = c.in-Ok.ensures.progress in
-    rw c.status.ensures
+    rw c.unwritten.ensures
     (cut_short g.L.Leaf.model c.args.script.now c.in-Ok.lines _ _ _ _ _ _ c.finish.new.session _ c.in-Err-write_line.error progress (c.in-Ok-finish.ensures.turn _ progress.cells) c.in-Err-write_line.ensures.bytes)

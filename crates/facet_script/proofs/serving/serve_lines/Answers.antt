@@ -14,7 +14,7 @@ pub returns-in-Err-clause-served : goal.returns-in-Err-clause-served
 returns-in-Err-clause-served g c =
     let m = g.L.Leaf.model in
     let progress = line_cut_off m c.args.script.now c.loop-rest.lines c.loop-rest.rest.now _ _ _ _ _ (grind arith) c.cut_line.ensures.line c.cut_line.ensures.rest c.loop-rest.invariant.progress in
-    out_of_memory m c.args.script.now c.loop-rest.lines _ _ _ _ _ c.step.new.session progress c.in-Err.ensures.err c.in-Err.ensures.cleared
+    rw c.out_of_memory.ensures (out_of_memory m c.args.script.now c.loop-rest.lines _ _ _ _ _ c.step.new.session progress c.in-Err.ensures.err c.in-Err.ensures.cleared)
 
 pub loop-rest-preserved : goal.loop-rest-preserved
 loop-rest-preserved g c =
@@ -30,5 +30,5 @@ pub returns-in-Err-write_line-clause-served : goal.returns-in-Err-write_line-cla
 returns-in-Err-write_line-clause-served g c =
     let m = g.L.Leaf.model in
     let progress = line_cut_off m c.args.script.now c.loop-rest.lines c.loop-rest.rest.now _ _ _ _ _ (grind arith) c.cut_line.ensures.line c.cut_line.ensures.rest c.loop-rest.invariant.progress in
-    rw c.status.ensures
+    rw c.unwritten.ensures
     (cut_short m c.args.script.now c.loop-rest.lines _ _ _ _ _ _ c.step.new.session _ c.in-Err-write_line.error progress (c.in-Ok.ensures.turn _ progress.cells) c.in-Err-write_line.ensures.bytes)

@@ -1,15 +1,15 @@
 use Rattle.std.proofs.Common.{◌<◌, ◌∙◌, length, arith, length-set}
-use Rattle.facet_session.specs.Stored.{IsFilled}
+use Rattle.facet_session.specs.Cell.{HoldsValue}
 use Rattle.facet_base.proofs.Lists.{All_at, some_there}
 use Rattle.facet_session.proofs.DroppingCells.{same_at, same_behind, next_stored}
 use Rattle.facet_session.proofs.cells.drop_values.Goals as goal
 use Rattle.facet_session.proofs.cells.drop_values.Goals.{in-Some, in_default}
 
-pub drop_value-requires-clause-filled : goal.drop_value-requires-clause-filled
-drop_value-requires-clause-filled g c =
+pub drop_cell-requires-clause-held : goal.drop_cell-requires-clause-held
+drop_cell-requires-clause-held g c =
     let cells = c.args.cells.now.items in
     let here = same_at c.loop-i.cells.items cells c.loop-i.i c.in-Some.cell.now c.loop-i.invariant.rest c.in-Some.ensures.value in
-    All_at (IsFilled c.args.shapes.now) cells c.loop-i.i c.in-Some.cell.now c.requires.filled here
+    All_at (HoldsValue g.L.Leaf.model c.args.shapes.now) cells c.loop-i.i c.in-Some.cell.now c.requires.held here
 
 pub loop-i-preserved : goal.loop-i-preserved
 loop-i-preserved g c =
@@ -20,10 +20,10 @@ loop-i-preserved g c =
       | in-Some w ↦
           let here = same_at c.loop-i.cells.items cells i w.in-Some.cell.now inv.rest w.in-Some.ensures.value in
           record {
-            rest = rw w.cells-is (same_behind c.loop-i.cells.items cells i w.drop_value.new.cell inv.rest);
-            count = rw w.cells-is (length-set c.loop-i.cells.items i w.drop_value.new.cell ∙ inv.count);
-            leaves = rw w.log-is (next_stored c.args.shapes.now cells i w.in-Some.cell.now _ _ _ here inv.leaves w.drop_value.ensures.leaves);
-            room = rw w.log-is (omega (arith, inv.room, w.drop_value.ensures.spare));
+            rest = rw w.cells-is (same_behind c.loop-i.cells.items cells i w.drop_cell.new.cell inv.rest);
+            count = rw w.cells-is (length-set c.loop-i.cells.items i w.drop_cell.new.cell ∙ inv.count);
+            leaves = rw w.log-is (next_stored c.args.shapes.now cells i w.in-Some.cell.now _ _ _ here inv.leaves w.drop_cell.ensures.leaves);
+            room = rw w.log-is (omega (arith, inv.room, w.drop_cell.ensures.spare));
           }
       | in_default w ↦
           let below : i < length c.loop-i.cells.items = omega (arith, inv.count, c.loop-i-test.true, c.len-i-end.ensures) in

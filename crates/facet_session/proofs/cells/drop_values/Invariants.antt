@@ -1,5 +1,5 @@
 use Rattle.std.proofs.Common.{◌≡◌, ◌+◌, ◌≤◌, ◌++◌, length, drop}
-use Rattle.facet_session.specs.Stored.{stored_in_all}
+use Rattle.facet_session.specs.Cell.{stored_in_all}
 use Rattle.facet_session.proofs.cells.drop_values.Given as goal
 
 abbrev pub invariant-loop-i : goal.invariant-loop-i

@@ -1,17 +1,17 @@
 use Rattle.std.proofs.Common.{[], ◌∙◌, ◌++◌, All, ap, sym, subst, refl, length, codes}
 use Rattle.facet_session.specs.Session.{ShowEntries}
 use Rattle.facet_session.specs.Turn.{listed}
-use Rattle.facet_session.specs.Stored.{stored_in_all, IsFilled}
-use Rattle.facet_session.proofs.ShownSessions.{cells_filled, stored_session}
+use Rattle.facet_session.specs.Cell.{HoldsValue, stored_in_all}
+use Rattle.facet_session.proofs.ShownSessions.{cells_hold, stored_session}
 use Rattle.facet_session.proofs.stepping.finish.Goals as goal
 
 pub text_of_end-requires : goal.text_of_end-requires
 text_of_end-requires g c =
     let session = c.args.session.now in
-    subst (All (IsFilled session.shapes)) (sym c.as_slice.ensures) (cells_filled g.L.Leaf.model session c.requires)
+    subst (All (HoldsValue g.L.Leaf.model session.shapes)) (sym c.as_slice.ensures) (cells_hold g.L.Leaf.model session c.requires)
 
-pub drop_values-requires-clause-filled : goal.drop_values-requires-clause-filled
-drop_values-requires-clause-filled g c = cells_filled g.L.Leaf.model c.args.session.now c.requires
+pub drop_values-requires-clause-held : goal.drop_values-requires-clause-held
+drop_values-requires-clause-held g c = cells_hold g.L.Leaf.model c.args.session.now c.requires
 
 pub returns-clause-turn : goal.returns-clause-turn
 returns-clause-turn g c state shown =

@@ -2,7 +2,7 @@ use Rattle.std.proofs.Common.{◌≡◌, ◌∷◌, ◌++◌, ◌+◌, ◌∙◌
 use Rattle.std.proofs.lemmas.List.{drop_more}
 use Rattle.std.proofs.lemmas.Str.{IsUtf8-append}
 use Rattle.facet_session.specs.Listing.{rest_listed}
-use Rattle.facet_session.specs.Stored.{stored_in_all}
+use Rattle.facet_session.specs.Cell.{stored_in_all}
 use Rattle.facet_session.proofs.AnswerTexts.{bracket_utf8}
 use Rattle.facet_session.proofs.writing.text_of_end.Goals as goal
 use Rattle.facet_session.proofs.writing.text_of_end.Goals.{then-some+in_ok-push, else-some}

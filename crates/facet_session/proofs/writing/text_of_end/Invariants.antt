@@ -2,7 +2,7 @@ use Rattle.std.proofs.Common.{◌≡◌, ◌++◌, codes, drop}
 use Rattle.std.specs.Str.{IsUtf8}
 use Rattle.facet_session.specs.Turn.{listed}
 use Rattle.facet_session.specs.Listing.{rest_listed}
-use Rattle.facet_session.specs.Stored.{stored_in_all}
+use Rattle.facet_session.specs.Cell.{stored_in_all}
 use Rattle.facet_session.proofs.writing.text_of_end.Given as goal
 
 abbrev pub invariant-loop-cell : goal.invariant-loop-cell

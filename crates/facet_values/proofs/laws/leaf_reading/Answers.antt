@@ -1,4 +1,4 @@
-use Rattle.facet_values.proofs.Leaves.{kind_of_leaf, reads_leaf}
+use Rattle.facet_values.proofs.LeafReading.{kind_of_leaf, reads_leaf}
 use Rattle.facet_values.proofs.laws.leaf_reading.Goals as goal
 
 pub returns-clause-of_kind : goal.returns-clause-of_kind

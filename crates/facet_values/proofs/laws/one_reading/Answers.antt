@@ -1,5 +1,5 @@
-use Rattle.facet_values.proofs.Readings.{Reads-unique}
+use Rattle.facet_values.proofs.OneReading.{one_value}
 use Rattle.facet_values.proofs.laws.one_reading.Goals as goal
 
 pub returns : goal.returns
-returns g c = Reads-unique g.L.Leaf.model
+returns g c = one_value g.L.Leaf.model

@@ -1,7 +1,7 @@
 use Rattle.std.proofs.Common.{◌≡◌, take}
 use Rattle.std.specs.Fmt.{HasWritten, IsPlainFormatter}
 use Rattle.facet_base.specs.Flags.{contained_names}
-use Rattle.facet_base.proofs.Names.{begun, is_nil}
+use Rattle.facet_base.proofs.FlagNames.{begun, is_nil}
 use Rattle.facet_base.proofs.flags.names.write_names.Given as goal
 
 -- the names of the flags so far are written

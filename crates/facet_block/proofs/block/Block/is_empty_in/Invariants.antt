@@ -9,5 +9,5 @@ invariant-loop-i g l =
       empty : IsEmptyIn l.self (span l.off (l.i - l.off));
       start : l.off ≤ l.i;
       within : l.end ≤ l.off + l.len;
-      reach : (i : ℕ) → i < l.off + l.len → i < size_of l.self → i < l.end;
+      before_end : (i : ℕ) → i < l.off + l.len → i < size_of l.self → i < l.end;
     }

@@ -1,6 +1,6 @@
 use Rattle.std.proofs.Common.{◌≡◌, ℕ, ◌∙◌, ◌+◌, ◌<◌, sym, arith, length}
 use Rattle.facet_block.specs.declared.block.Seq.{roll-Seq, roll-out-Seq}
-use Rattle.facet_block.specs.Block.{spare_of, element_size_of, with_new_spare}
+use Rattle.facet_block.specs.Seq.{spare_of, element_size_of, with_new_spare}
 use Rattle.facet_block.proofs.Sequences.{with_new_spare_0, on_err}
 use Rattle.facet_block.proofs.block.Seq.reserve.Goals as goal
 

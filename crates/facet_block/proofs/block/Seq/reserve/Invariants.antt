@@ -1,5 +1,5 @@
 use Rattle.std.proofs.Common.{◌≡◌}
-use Rattle.facet_block.specs.Block.{with_new_spare}
+use Rattle.facet_block.specs.Seq.{with_new_spare}
 use Rattle.facet_block.proofs.block.Seq.reserve.Given as goal
 
 abbrev pub invariant-loop-made : goal.invariant-loop-made

@@ -2,8 +2,8 @@ use Rattle.std.proofs.Common.{◌≡◌, ◌<◌, ◌≤◌, ◌-◌, List, subs
 use Rattle.std.specs.List.{slice_rotate_right}
 use Rattle.std.proofs.lemmas.List.{with_items_is}
 use borrow.Rule.Slice.PartMut.{put_mid, mid_of, same_len_mid}
-use Rattle.facet_block.specs.Block.{last_moved_to}
-use Rattle.facet_block.proofs.Parts.{take_moved, drop_moved}
+use Rattle.facet_block.specs.Seq.{last_moved_to}
+use Rattle.facet_block.proofs.SplitEdits.{take_moved, drop_moved}
 use Rattle.facet_block.proofs.split.Split.move_last_to.Goals as goal
 
 pub returns : goal.returns

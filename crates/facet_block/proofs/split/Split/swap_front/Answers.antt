@@ -1,5 +1,5 @@
 use Rattle.std.proofs.Common.{◌≡◌, ◌<◌, ◌≤◌, List, subst, sym, length, take, swap, arith, length-take}
-use Rattle.facet_block.proofs.Parts.{take_swap, drop_swap}
+use Rattle.facet_block.proofs.SplitEdits.{take_swap, drop_swap}
 use Rattle.facet_block.proofs.split.Split.swap_front.Goals as goal
 
 pub returns : goal.returns

@@ -22,6 +22,9 @@ returns-in-Some-clause-turn g c =
 pub parse-requires-clause-parses : goal.parse-requires-clause-parses
 parse-requires-clause-parses g c = (served c.args.session.now.shapes _ c.args.shape.0 c.in_default.ensures.first).1
 
+pub add_leaf-requires-clause-sealed : goal.add_leaf-requires-clause-sealed
+add_leaf-requires-clause-sealed g c = (served c.args.session.now.shapes _ c.args.shape.0 c.in_default.ensures.first).0
+
 pub add_leaf-requires-clause-kind : goal.add_leaf-requires-clause-kind
 add_leaf-requires-clause-kind g c = parsed_kind g.L.Leaf.model g.met.L.Leaf.laws _ _ c.in-Some-2.leaf (sym c.in-Some-2.is ∙ c.in_ok-leaf.ensures)
 

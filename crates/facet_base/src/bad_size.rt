@@ -1,3 +1,0 @@
-/// No unsigned type of a discriminant has so many bytes.
-#[derive(Drop)]
-pub struct BadSize;

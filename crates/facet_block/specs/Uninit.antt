@@ -1,9 +1,0 @@
--- A pointer to a place that is to be filled is always at a place.
-use Rattle.facet_block.specs.declared.ptr_mut.PtrMut.{PtrMut}
-use Rattle.facet_block.specs.declared.ptr_uninit.PtrUninit.{PtrUninit}
-use Rattle.facet_block.specs.declared.ptr_uninit.PtrUninit.TheVariants.{At, Not}
-
--- where it points
-abbrev pub place_of : {X : Type 0} → PtrUninit X → PtrMut X
-place_of (At p) = p
-place_of (Not n) = elim n [ ]

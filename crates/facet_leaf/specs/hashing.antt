@@ -1,0 +1,3 @@
+pub mod HashProxy
+pub mod HashWrite
+pub mod Recorder

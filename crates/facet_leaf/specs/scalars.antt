@@ -1,0 +1,4 @@
+pub mod Scalar
+pub mod ScalarLaws
+pub mod ScalarModel
+pub mod ScalarTexts
