@@ -1,8 +1,8 @@
 -- Two graphs in which the first n nodes have the same edges, which lead to those nodes alone, as a registry with drafts
 -- and without them: what is said of one of these nodes holds in both.
-use Rattle.std.proofs.Common.{◌≡◌, ℕ, zero, suc, ◌+◌, ◌*◌, ◌-◌, ◌<◌, Bool, false, List, [], ◌∷◌, ◌++◌, All, Contains, get_or, length, map, replicate, sum_by, refl, sym, ◌∙◌, ap, subst, inl, inr, arith}
+use Rattle.std.proofs.Common.{◌≡◌, ℕ, zero, suc, ◌+◌, ◌*◌, ◌-◌, ◌<◌, Bool, false, List, [], ◌∷◌, ◌++◌, All, Contains, get_or, length, map, replicate, sum_by, take, refl, sym, ◌∙◌, ap, subst, inl, inr, arith}
 use Rattle.std.proofs.lemmas.Bool.{cases_lt, false≢true}
-use Rattle.std.proofs.lemmas.List.{get_or-append_right, get_or_append_left, get_or_past}
+use Rattle.std.proofs.lemmas.List.{get_or-append_right, get_or-take, get_or_append_left, get_or_past, length-take}
 use Rattle.std.proofs.lemmas.List.Elements.{Contains-get_or}
 use Rattle.facet_graph.specs.Cost.{AreCosts, IsTooCostly, capped, cost, unweighted}
 use Rattle.facet_graph.specs.Height.{AreHeights, AreLow, IsHeightEntry, IsLow, IsTooHigh, IsWithin}
@@ -113,3 +113,10 @@ marks_longer edges bad marks m clean s marked = elim (cases_lt s (length marks))
     none zero s = refl
     none (suc m) zero = refl
     none (suc m) (suc s) = none m s
+
+-- marks that are cut back to the first n nodes
+pub marks_cut : (edges : ℕ → List ℕ) (bad : ℕ → Bool) (marks : List Bool) (n : ℕ) → AreClean edges bad marks → AreClean edges bad (take n marks)
+marks_cut edges bad marks n clean s marked = elim (cases_lt s n) [
+  | inl below ↦ clean s (sym (get_or-take n marks s false below) ∙ marked)
+  | inr past ↦ absurd (false≢true (sym (get_or_past (take n marks) s false (omega (arith, past, length-take n marks))) ∙ marked))
+]
