@@ -1,6 +1,6 @@
 use Rattle.std.proofs.Common.{◌≡◌, ◌<◌, ◌∙◌, sym, ap, arith}
 use Rattle.facet_shapes.specs.Registry.{kind_at}
-use Rattle.facet_shapes.specs.declared.value_kind.ValueKind.TheVariants as kind
+use Rattle.facet_outline.specs.declared.value_kind.ValueKind.TheVariants as kind
 use Rattle.facet_values.proofs.LeafReading.{leaf_readable}
 use Rattle.facet_values.proofs.ReadablePlaces.{one_leaf_at_most}
 use Rattle.facet_make.proofs.ParsedLeaves.{kind_of_parsed}
