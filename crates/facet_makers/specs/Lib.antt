@@ -2,6 +2,6 @@ pub mod Generic
 pub mod Makers
 pub mod Offering
 pub mod Operations
-pub mod PartShape
+pub mod Slices
 pub mod SuitsKind
 pub mod Types

@@ -2,13 +2,12 @@ ghost use Rattle.std.specs.Prelude.{◌≡◌, ◌<◌, ◌-◌, ◌^◌, length
 ghost use Rattle.facet_shape.specs.WithoutSpare.{shape_without_spare};
 ghost use Rattle.facet_shapes.specs.Registry.{with_draft};
 ghost use Rattle.facet_makers.specs.Makers.{array_shape};
-ghost use Rattle.facet_makers.specs.PartShape.{part_at};
+ghost use Rattle.facet_shapes.specs.Offsets.{part_at};
 
 use crate::draft::draft;
 use crate::generic::{built_in, with_length, with_parameter};
 use crate::offering::offering;
 use crate::operations::array_operations;
-use crate::part_shape::part_at;
 use facet_base::{Layout, NameForm, ShapeId, ShapeLayout};
 use facet_def::{ArrayDef, Def};
 use facet_desc::{ArrayType, SequenceType, Ty};
@@ -32,7 +31,7 @@ pub fn array_of<L: Leaf>(
     ensures ok { OnOk result (shapes.new ≡ with_draft shapes.old (array_shape L.model t n (part_at shapes.old t.0))) }
     ensures err { OnErr result (shapes.new ≡ shapes.old) }
 {
-    let part = part_at(shapes, t);
+    let part = shapes.part_layout(t);
     draft(shapes, array_shape::<L>(alloc, t, n, part)?)
 }
 

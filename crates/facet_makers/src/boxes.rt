@@ -2,7 +2,7 @@ ghost use Rattle.std.specs.Prelude.{◌≡◌, ◌<◌, ◌-◌, ◌^◌, length
 ghost use Rattle.facet_shape.specs.WithoutSpare.{shape_without_spare};
 ghost use Rattle.facet_shapes.specs.Registry.{with_draft};
 ghost use Rattle.facet_makers.specs.Makers.{box_of, box_shape, boxed_slice_shape};
-ghost use Rattle.facet_makers.specs.PartShape.{is_slice_at};
+ghost use Rattle.facet_makers.specs.Slices.{is_slice_at};
 
 use crate::draft::draft;
 use crate::generic::{in_module, with_parameter};

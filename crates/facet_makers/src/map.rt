@@ -2,13 +2,12 @@ ghost use Rattle.std.specs.Prelude.{◌≡◌, ◌<◌, ◌-◌, ◌^◌, length
 ghost use Rattle.facet_shape.specs.WithoutSpare.{shape_without_spare};
 ghost use Rattle.facet_shapes.specs.Registry.{with_draft};
 ghost use Rattle.facet_makers.specs.Makers.{map_shape};
-ghost use Rattle.facet_makers.specs.PartShape.{part_at};
+ghost use Rattle.facet_shapes.specs.Offsets.{part_at};
 
 use crate::draft::draft;
 use crate::generic::{in_module, with_parameter};
 use crate::offering::offering;
 use crate::operations::map_operations;
-use crate::part_shape::part_at;
 use facet_base::{Layout, NameForm, ShapeId, ShapeLayout};
 use facet_def::{Def, MapDef};
 use facet_desc::{Ty, UserType};
@@ -33,8 +32,8 @@ pub fn map_of<L: Leaf>(
     ensures ok { OnOk result (shapes.new ≡ with_draft shapes.old (map_shape L.model k v (part_at shapes.old k.0) (part_at shapes.old v.0))) }
     ensures err { OnErr result (shapes.new ≡ shapes.old) }
 {
-    let key = part_at(shapes, k);
-    let value = part_at(shapes, v);
+    let key = shapes.part_layout(k);
+    let value = shapes.part_layout(v);
     draft(shapes, map_shape::<L>(alloc, k, v, key, value)?)
 }
 

@@ -2,13 +2,12 @@ ghost use Rattle.std.specs.Prelude.{◌≡◌, ◌<◌, ◌-◌, ◌^◌, length
 ghost use Rattle.facet_shape.specs.WithoutSpare.{shape_without_spare};
 ghost use Rattle.facet_shapes.specs.Registry.{with_draft};
 ghost use Rattle.facet_makers.specs.Makers.{option_shape};
-ghost use Rattle.facet_makers.specs.PartShape.{part_at};
+ghost use Rattle.facet_shapes.specs.Offsets.{part_at};
 
 use crate::draft::draft;
 use crate::generic::{in_module, with_parameter};
 use crate::offering::offering;
 use crate::operations::option_operations;
-use crate::part_shape::part_at;
 use crate::types::option_type;
 use facet_base::{Layout, NameForm, ShapeId, ShapeLayout};
 use facet_def::{Def, OptionDef};
@@ -32,7 +31,7 @@ pub fn option_of<L: Leaf>(
     ensures ok { OnOk result (shapes.new ≡ with_draft shapes.old (option_shape L.model t (part_at shapes.old t.0))) }
     ensures err { OnErr result (shapes.new ≡ shapes.old) }
 {
-    let part = part_at(shapes, t);
+    let part = shapes.part_layout(t);
     draft(shapes, option_shape::<L>(alloc, t, part)?)
 }
 

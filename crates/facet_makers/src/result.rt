@@ -2,13 +2,12 @@ ghost use Rattle.std.specs.Prelude.{◌≡◌, ◌<◌, ◌-◌, ◌^◌, length
 ghost use Rattle.facet_shape.specs.WithoutSpare.{shape_without_spare};
 ghost use Rattle.facet_shapes.specs.Registry.{with_draft};
 ghost use Rattle.facet_makers.specs.Makers.{result_shape};
-ghost use Rattle.facet_makers.specs.PartShape.{part_at};
+ghost use Rattle.facet_shapes.specs.Offsets.{part_at};
 
 use crate::draft::draft;
 use crate::generic::{in_module, with_parameter};
 use crate::offering::offering;
 use crate::operations::result_operations;
-use crate::part_shape::part_at;
 use facet_base::{Layout, NameForm, ShapeId, ShapeLayout};
 use facet_def::{Def, ResultDef};
 use facet_desc::{Ty, UserType};
@@ -33,8 +32,8 @@ pub fn result_of<L: Leaf>(
     ensures ok { OnOk result (shapes.new ≡ with_draft shapes.old (result_shape L.model t e (part_at shapes.old t.0) (part_at shapes.old e.0))) }
     ensures err { OnErr result (shapes.new ≡ shapes.old) }
 {
-    let part = part_at(shapes, t);
-    let error = part_at(shapes, e);
+    let part = shapes.part_layout(t);
+    let error = shapes.part_layout(e);
     draft(shapes, result_shape::<L>(alloc, t, e, part, error)?)
 }
 

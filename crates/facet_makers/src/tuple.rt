@@ -3,7 +3,7 @@ ghost use Rattle.std.specs.List.{All};
 ghost use Rattle.facet_shape.specs.WithoutSpare.{shape_without_spare};
 ghost use Rattle.facet_shapes.specs.Registry.{with_draft};
 ghost use Rattle.facet_makers.specs.Makers.{tuple_of, tuple_shape};
-ghost use Rattle.facet_makers.specs.PartShape.{part_at};
+ghost use Rattle.facet_shapes.specs.Offsets.{part_at};
 ghost use Rattle.facet_makers.specs.Types.{tuple_identifier};
 
 use crate::draft::draft;

@@ -1,10 +1,9 @@
 ghost use Rattle.std.specs.Prelude.{◌≡◌, ◌<◌, ◌≤◌, ◌^◌, IfOk, decimal, fold};
 ghost use Rattle.facet_desc.specs.Field.{fresh_field};
 ghost use Rattle.facet_desc.specs.WithoutSpare.{field_without_spare};
-ghost use Rattle.facet_makers.specs.PartShape.{part_at};
+ghost use Rattle.facet_shapes.specs.Offsets.{part_at};
 ghost use Rattle.facet_makers.specs.Types.{no_parts, tuple_parts, with_part};
 
-use crate::part_shape::part_at;
 use facet_base::{Layout, Many, ShapeId, Text};
 use facet_desc::{Field, FieldBuilder};
 use facet_leaf::Leaf;
@@ -80,7 +79,7 @@ pub fn tuple_parts<L: Leaf>(
 {
     let mut tuple = TupleParts::new(alloc);
     for t in ids {
-        tuple = tuple.with_part(alloc, *t, part_at(shapes, *t))?;
+        tuple = tuple.with_part(alloc, *t, shapes.part_layout(*t))?;
     }
     Ok(tuple)
 }

@@ -51,7 +51,7 @@ part_reference_is_reference s id among =
     let in_all = Contains-append_left (params ++ part_references s ++ option_to_list s.inner ++ option_to_list s.builder_shape) (proxies_of s) id in_four in
     eager_is_reference s id (height_is_eager s id in_all)
 
-def_part_is_reference : (s : Shape) (id : ShapeId) → Contains (parts_of_def s.def) id → Contains (references s) id
+pub def_part_is_reference : (s : Shape) (id : ShapeId) → Contains (parts_of_def s.def) id → Contains (references s) id
 unfolding part_references
 def_part_is_reference s id among =
     let in_two = Contains-append_left (parts_of_def s.def) (strong_of_def s.def) id among in
@@ -81,7 +81,7 @@ field_of_tuple_or_other (ty.User (user.Struct s)) id among = either_way (is_tupl
 field_of_tuple_or_other (ty.User (user.Enum e)) id among = inr among
 field_of_tuple_or_other _ id (i, below, at) = absurd (omega arith)
 
-field_is_reference : (s : Shape) (id : ShapeId) → Contains (fields_of_type s.ty) id → Contains (references s) id
+pub field_is_reference : (s : Shape) (id : ShapeId) → Contains (fields_of_type s.ty) id → Contains (references s) id
 field_is_reference s id among = elim (field_of_tuple_or_other s.ty id among) [ inl tuple ↦ tuple_field_is_reference s id tuple | inr other ↦ other_field_is_reference s id other ]
 
 -- a part is a reference, or the element of the slice that the shape points to

@@ -4,8 +4,8 @@ use Rattle.std.specs.List.{list_any}
 use Rattle.std.specs.Option.{option_map_or}
 use Rattle.facet_base.specs.declared.layout.ShapeId.{ShapeId}
 use Rattle.facet_base.specs.declared.layout.ShapeLayout.{ShapeLayout}
-use Rattle.facet_caps.specs.VTableErased.{capabilities_of}
 use Rattle.facet_caps.specs.TypeOps.{operations_of}
+use Rattle.facet_caps.specs.VTableErased.{capabilities_of}
 use Rattle.facet_caps.specs.declared.type_ops.TypeOps.{TypeOps}
 use Rattle.facet_caps.specs.declared.vtable.VTableDirect.{VTableDirect}
 use Rattle.facet_def.specs.declared.def.Def.{Def}

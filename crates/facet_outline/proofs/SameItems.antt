@@ -32,7 +32,7 @@ unfolding field_without_spare
 fields_same [] = refl
 fields_same (f ∷ fields) = ap (λ ids. f.shape ∷ ids) (fields_same fields)
 
-struct_same : (s : StructType) → fields_of_struct (struct_without_spare s) ≡ fields_of_struct s
+pub struct_same : (s : StructType) → fields_of_struct (struct_without_spare s) ≡ fields_of_struct s
 unfolding struct_without_spare
 struct_same s = fields_same s.fields.items
 
@@ -48,7 +48,7 @@ enum_same : (e : EnumType) → fields_of_enum (enum_without_spare e) ≡ fields_
 unfolding enum_without_spare
 enum_same e = variants_same e.variants.items
 
-struct_kind_same : (s : StructType) → (struct_without_spare s).kind ≡ s.kind
+pub struct_kind_same : (s : StructType) → (struct_without_spare s).kind ≡ s.kind
 unfolding struct_without_spare
 struct_kind_same s = refl
 

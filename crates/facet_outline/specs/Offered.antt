@@ -5,8 +5,8 @@ use Rattle.facet_base.specs.declared.characteristic.Characteristic.TheVariants a
 use Rattle.facet_base.specs.declared.layout.ShapeId.{ShapeId}
 use Rattle.facet_base.specs.declared.scalar_type.ScalarType.{ScalarType}
 use Rattle.facet_caps.specs.EmptyRecords.{empty_direct}
-use Rattle.facet_caps.specs.VTableErased.{capabilities_of}
 use Rattle.facet_caps.specs.TypeOps.{operations_of}
+use Rattle.facet_caps.specs.VTableErased.{capabilities_of}
 use Rattle.facet_caps.specs.declared.type_ops.TypeOps.{TypeOps}
 use Rattle.facet_caps.specs.declared.type_ops.TypeOpsDirect.{TypeOpsDirect}
 use Rattle.facet_caps.specs.declared.vtable.VTableDirect.{VTableDirect}

@@ -9,6 +9,8 @@ pub mod laws;
 mod layout;
 mod lookup;
 mod mismatch;
+mod name;
+pub mod name_laws;
 mod offered;
 mod parts;
 mod placed_fields;
@@ -30,6 +32,7 @@ pub use layout::{
 };
 pub use lookup::LayoutLookup;
 pub use mismatch::is_mismatched;
+pub use name::{own_name_bytes, push_name_children};
 pub use offered::{has_unoffered_member, offered_capabilities, offered_operations};
 pub use parts::{key_of_kind, push_inline_parts, push_parts, repetition};
 pub use placed_fields::{

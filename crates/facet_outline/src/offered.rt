@@ -1,6 +1,6 @@
 ghost use Rattle.std.specs.Prelude.{◌≡◌, false};
-ghost use Rattle.facet_caps.specs.VTableErased.{capabilities_of};
 ghost use Rattle.facet_caps.specs.TypeOps.{operations_of};
+ghost use Rattle.facet_caps.specs.VTableErased.{capabilities_of};
 ghost use Rattle.facet_outline.specs.Offered.{comparing as comparing_record, has_unoffered_of_kind, has_no_more, has_no_more_comparisons, has_no_more_conversions, has_no_more_operations, has_no_more_texts, implies, hashing as hashing_record, has_unoffered_member, leaf_capabilities, offered_capabilities, offered_operations, wraps_a_field};
 
 use crate::value_kind::{ValueKind, kind_of};

@@ -146,8 +146,8 @@ fn push_parts_of_type(ty: &Ty, to: &mut Vec<ShapeId>) -> Result<(), AllocError>
     }
 }
 
-// Adds the fields of a tuple.
-fn push_tuple_fields(ty: &Ty, to: &mut Vec<ShapeId>) -> Result<(), AllocError>
+/// Adds the fields of a tuple.
+pub fn push_tuple_fields(ty: &Ty, to: &mut Vec<ShapeId>) -> Result<(), AllocError>
     ensures { OnOk result (to.new.items ≡ to.old.items ++ fields_of_tuple ty.now) }
 {
     match ty {

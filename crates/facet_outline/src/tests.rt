@@ -1,4 +1,5 @@
 mod causes;
+mod names;
 mod parts;
 mod references;
 

@@ -1,6 +1,6 @@
 -- What stays of a registry that gets a draft, or loses its drafts.
 use Rattle.std.proofs.Common.{◌≡◌, ℕ, ◌+◌, ◌^◌, ◌<◌, inl, inr, List, [], ◌∷◌, ◌++◌, length, take, slice_get, Option, None, Some, refl, sym, ap, ◌∙◌, subst, arith, length-take, length-append}
-use Rattle.std.proofs.lemmas.List.{take-append-le, take-take}
+use Rattle.std.proofs.lemmas.List.{take-append-le, take-take, take_all}
 use Rattle.std.proofs.lemmas.Option.{slice_get_cases, slice_get_within}
 use Rattle.facet_base.proofs.Lists.{slice_get_front, slice_get_take}
 use Rattle.facet_base.specs.declared.known_pointer.KnownPointer.{KnownPointer}
@@ -13,13 +13,16 @@ use Rattle.facet_def.specs.declared.def.Def.TheVariants as def
 use Rattle.facet_desc.specs.declared.ty.Ty.{Ty}
 use Rattle.facet_desc.specs.declared.ty.Ty.TheVariants as ty
 use Rattle.facet_desc.specs.declared.ty.UserType.TheVariants as user
+use Rattle.facet_causes.specs.Causes.{IsWellFormed}
+use Rattle.facet_causes.specs.Reading.{element_of}
+use Rattle.facet_causes.specs.Tables.{AreTables}
+use Rattle.facet_causes.specs.declared.tables.Tables.{Tables}
 use Rattle.facet_leaf.specs.LeafModel.{LeafModel}
 use Rattle.facet_shape.specs.declared.shape.Shape.{Shape}
 use Rattle.facet_outline.specs.ValueKind.{kind_by_def, kind_by_scalar, kind_by_type, kind_of_box, kind_of_pointer}
 use Rattle.facet_outline.specs.declared.value_kind.ValueKind.TheVariants as kind
-use Rattle.facet_shapes.specs.Registry.{Registry, kind_at, kind_of_found, offered_by, shape_at, size_of_found, without_drafts}
-use Rattle.facet_shapes.specs.ValueKind.{element_of}
-use Rattle.facet_shapes.specs.WellFormed.{IsRegistry, IsWellFormed}
+use Rattle.facet_shapes.specs.Registry.{Registry, all_sealed, kind_of_found, without_drafts}
+use Rattle.facet_shapes.specs.WellFormed.{IsRegistry, IsRegistryBeside}
 
 -- the last of a list stands behind the others
 slice_get_last : {A : Type 0} (xs : List A) (x : A) → slice_get (xs ++ x ∷ []) (length xs) ≡ Some x
@@ -45,7 +48,7 @@ no_leaf_by_def element (def.Pointer p) t k same = no_leaf_by_pointer p.known ele
 no_leaf_by_def element def.Undefined t k same = no_leaf_by_type t k same
 no_leaf_by_def element _ t k same = cc
 
-leaf_among : (of : Option ScalarType) (before after : Option ShapeId) (d : Def) (t : Ty) (k : ScalarType)
+pub leaf_among : (of : Option ScalarType) (before after : Option ShapeId) (d : Def) (t : Ty) (k : ScalarType)
     → kind_by_scalar of after d t ≡ kind.Leaf k → kind_by_scalar of before d t ≡ kind.Leaf k
 leaf_among (Some scalar.Unit) before after d t k same = same
 leaf_among (Some scalar.Str) before after d t k same = absurd (no_leaf_by_def after d t k same)
@@ -55,16 +58,6 @@ leaf_among (Some _) before after d t k same = same
 leaf_found : (found : Option Shape) (before after : List Shape) (k : ScalarType) → kind_of_found after found ≡ kind.Leaf k → kind_of_found before found ≡ kind.Leaf k
 leaf_found None before after k same = same
 leaf_found (Some shape) before after k same = leaf_among shape.scalar (element_of before shape.def) (element_of after shape.def) shape.def shape.ty k same
-
--- what is well formed in one registry is so in another one that has the same shape under that id
-well_formed_still : {L : Type 0} (m : LeafModel L) (before after : Registry) (s : ℕ) → shape_at after s ≡ shape_at before s → IsWellFormed m before s → IsWellFormed m after s
-well_formed_still m before after s still is =
-    let leaf : (k : ScalarType) → kind_at after s ≡ kind.Leaf k → kind_at before s ≡ kind.Leaf k =
-    λ k same. leaf_found (shape_at before s) before.shapes after.shapes k (sym (ap (kind_of_found after.shapes) still) ∙ same) in
-    record {
-      room = λ k same. subst (λ found. 0 < size_of_found found) (sym still) (is.room k (leaf k same));
-      capable = λ k c same offered. is.capable k c (leaf k same) (sym (ap (λ found. offered_by found c) still) ∙ offered);
-    }
 
 module _ {L : Type 0} (m : LeafModel L) (registry : Registry) (is : IsRegistry m registry) where
   -- a shape that goes on with the ids stands under its own
@@ -91,7 +84,7 @@ module _ {L : Type 0} (m : LeafModel L) (registry : Registry) (is : IsRegistry m
         within = omega (arith, is.within, length-append xs drafts);
         few = omega (arith, room, length-append xs drafts);
         ids = ids_with_draft shape next;
-        well_formed = λ s below. well_formed_still m registry (record registry { shapes = xs ++ drafts }) s (slice_get_front xs drafts s (omega (arith, below, is.within))) (is.well_formed s below);
+        well_formed = subst (IsWellFormed m) (sym (take-append-le registry.sealed xs drafts is.within)) is.well_formed;
       }
 
   pub registry_without_drafts : IsRegistry m (without_drafts registry)
@@ -106,5 +99,44 @@ module _ {L : Type 0} (m : LeafModel L) (registry : Registry) (is : IsRegistry m
         ids = λ s shape here.
             let below : s < n = omega (arith, slice_get_within (take n xs) s shape here, length-take n xs) in
             is.ids s shape (sym (slice_get_take n xs s below) ∙ here);
-        well_formed = λ s below. well_formed_still m registry (without_drafts registry) s (slice_get_take n xs s below) (is.well_formed s below);
+        well_formed = subst (IsWellFormed m) (sym (take-take n n xs (omega arith))) is.well_formed;
       }
+
+  -- where no shape meets a cause all may be sealed
+  pub registry_all_sealed : IsWellFormed m registry.shapes → IsRegistry m (all_sealed registry)
+  registry_all_sealed well =
+      let xs = registry.shapes in
+      record {
+        begins = is.begins;
+        least = omega (arith, is.least, is.within);
+        within = omega arith;
+        few = is.few;
+        ids = is.ids;
+        well_formed = subst (IsWellFormed m) (sym (take_all (length xs) xs (omega arith))) well;
+      }
+
+module _ {L : Type 0} (m : LeafModel L) (registry : Registry) (tables : Tables) (is : IsRegistryBeside m registry tables) where
+  pub beside_with_draft : (shape : Shape) → shape.id.0 ≡ length registry.shapes → length registry.shapes + 1 < 2 ^ 32
+      → IsRegistryBeside m (record registry { shapes = registry.shapes ++ shape ∷ [] }) tables
+  beside_with_draft shape next room =
+      record {
+        is = registry_with_draft m registry is.is shape next room;
+        right = subst (λ xs. AreTables xs tables) (sym (take-append-le registry.sealed registry.shapes (shape ∷ []) is.is.within)) is.right;
+      }
+
+  pub beside_without_drafts : IsRegistryBeside m (without_drafts registry) tables
+  beside_without_drafts =
+      record {
+        is = registry_without_drafts m registry is.is;
+        right = subst (λ xs. AreTables xs tables) (sym (take-take registry.sealed registry.sealed registry.shapes (omega arith))) is.right;
+      }
+
+-- with the tables of all its shapes, where none meets a cause
+pub beside_all_sealed : {L : Type 0} (m : LeafModel L) (registry : Registry) (tables : Tables) → IsRegistry m registry → IsWellFormed m registry.shapes
+    → AreTables registry.shapes tables → IsRegistryBeside m (all_sealed registry) tables
+beside_all_sealed m registry tables is well right =
+    let xs = registry.shapes in
+    record {
+      is = registry_all_sealed m registry is well;
+      right = subst (λ ys. AreTables ys tables) (sym (take_all (length xs) xs (omega arith))) right;
+    }

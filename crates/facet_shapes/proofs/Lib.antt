@@ -1,3 +1,5 @@
 mod Drafts
 mod Preludes
 mod Scalars
+pub mod SealedLeaves
+pub mod WellFormedPrelude

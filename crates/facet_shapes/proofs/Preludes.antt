@@ -7,6 +7,9 @@ use Rattle.facet_base.specs.declared.layout.ShapeId.{ShapeId}
 use Rattle.facet_base.specs.declared.scalar_type.ScalarType.{ScalarType}
 use Rattle.facet_base.specs.declared.scalar_type.ScalarType.TheVariants as scalar
 use Rattle.facet_def.specs.declared.def.Def.TheVariants as def
+use Rattle.facet_causes.specs.Tables.{AreTables}
+use Rattle.facet_causes.specs.declared.tables.Tables.{Tables}
+use Rattle.facet_leaf.specs.LeafLaws.{LeafLaws}
 use Rattle.facet_leaf.specs.LeafModel.{LeafModel}
 use Rattle.facet_shape.specs.ShapeBuilder.{fresh_shape}
 use Rattle.facet_shape.specs.Capability.{can}
@@ -16,50 +19,13 @@ use Rattle.facet_outline.specs.declared.value_kind.ValueKind.TheVariants as kind
 use Rattle.facet_shapes.specs.Prelude.{prelude, prelude_kinds, scalar_layout, scalar_shape, scalar_shapes, scalar_ty}
 use Rattle.facet_shapes.specs.Registry.{Registry, kind_of_found, offered_by, size_of_found}
 use Rattle.facet_outline.specs.ValueKind.{kind_by_scalar}
-use Rattle.facet_shapes.specs.WellFormed.{IsRegistry}
+use Rattle.facet_shapes.specs.WellFormed.{IsRegistry, IsRegistryBeside}
+use Rattle.facet_shapes.proofs.WellFormedPrelude.{prelude_well_formed}
 
 abbrev registry_of : List Shape → ℕ → Registry
 registry_of shapes sealed = record { shapes = shapes; sealed = sealed }
 
--- scalars that are leaves are of the shape's kind, which isn't Unit, and have a byte or more
-leaf_of_scalar : (element : Option ShapeId) (k of : ScalarType) → kind_by_scalar (Some k) element def.Scalar (scalar_ty k) ≡ kind.Leaf of
-    → (k ≢ scalar.Unit) × (k ≡ of) × (0 < unwrap_or (size_in_bytes (scalar_layout k)) 0)
-leaf_of_scalar element scalar.Unit of same = absurd (cc)
-leaf_of_scalar element scalar.Str of same = absurd (cc)
-leaf_of_scalar element _ of same = (λ unit. cc, cc, omega arith)
-
 module _ {L : Type 0} (m : LeafModel L) where
-  -- all scalars but the unit offer what their leaves can do
-  offered_by_scalar : (id : ℕ) (k : ScalarType) (c : Characteristic) → k ≢ scalar.Unit → can (scalar_shape m id k) c ≡ m.can k c
-  unfolding scalar_shape
-  offered_by_scalar id scalar.Unit c other = absurd (other refl)
-  offered_by_scalar id _ trait.Clone other = refl
-  offered_by_scalar id _ trait.Display other = refl
-  offered_by_scalar id _ trait.Debug other = refl
-  offered_by_scalar id _ trait.PartialEq other = refl
-  offered_by_scalar id _ trait.PartialOrd other = refl
-  offered_by_scalar id _ trait.Ord other = refl
-  offered_by_scalar id _ trait.Hash other = refl
-  offered_by_scalar id _ trait.Default other = refl
-  offered_by_scalar id _ trait.FromStr other = refl
-
-  -- where there is a shape of leaves, it has room for them, and offers only what they can do
-  abbrev IsForLeaves : List Shape → Option Shape → Type 0
-  IsForLeaves among found =
-      (of : ScalarType) → kind_of_found among found ≡ kind.Leaf of → (0 < size_of_found found) × ((c : Characteristic) → offered_by found c ≡ true → m.can of c ≡ true)
-
-  scalar_is_for_leaves : (among : List Shape) (id : ℕ) (k : ScalarType) → IsForLeaves among (Some (scalar_shape m id k))
-  unfolding scalar_shape fresh_shape
-  scalar_is_for_leaves among id k of same =
-      let leaf = leaf_of_scalar None k of same in
-      (leaf.2, λ c offered. subst (λ j. m.can j c ≡ true) leaf.1 (sym (offered_by_scalar id k c leaf.0) ∙ offered))
-
-  scalars_are_for_leaves : (among : List Shape) (id : ℕ) (kinds : List ScalarType) (s : ℕ) → IsForLeaves among (slice_get (scalar_shapes m id kinds) s)
-  scalars_are_for_leaves among id [] zero of same = absurd (cc)
-  scalars_are_for_leaves among id [] (suc s) of same = absurd (cc)
-  scalars_are_for_leaves among id (k ∷ kinds) zero of same = scalar_is_for_leaves among id k of same
-  scalars_are_for_leaves among id (k ∷ kinds) (suc s) of same = scalars_are_for_leaves among (id + 1) kinds s of same
-
   id_of_scalar : (id : ℕ) (k : ScalarType) → (scalar_shape m id k).id.0 ≡ id
   unfolding scalar_shape
   id_of_scalar id k = refl
@@ -72,18 +38,16 @@ module _ {L : Type 0} (m : LeafModel L) where
       omega (arith, ap (λ x. x.id.0) same ∙ id_of_scalar id k)
   ids_of_scalars id (k ∷ kinds) (suc s) shape here = omega (arith, ids_of_scalars (id + 1) kinds s shape here)
 
-  registry_prelude : IsRegistry m (prelude m)
+  registry_prelude : LeafLaws m → IsRegistry m (prelude m)
   unfolding prelude
-  registry_prelude =
+  registry_prelude laws =
       record {
         begins = refl;
         least = omega arith;
         within = omega arith;
         few = omega arith;
         ids = λ s shape here. omega (arith, ids_of_scalars 0 prelude_kinds s shape here);
-        well_formed = λ s below.
-            let is = scalars_are_for_leaves (prelude m).shapes 0 prelude_kinds s in
-            record { room = λ k same. (is k same).0; capable = λ k c same. (is k same).1 c };
+        well_formed = prelude_well_formed m laws;
       }
 
   -- one shape more than those of the first kinds leaves those of the others
@@ -102,9 +66,15 @@ module _ {L : Type 0} (m : LeafModel L) where
   pub scalars_done : (so_far : List Shape) (kinds : List ScalarType) (i : ℕ) (all : List Shape) → length kinds ≤ i → so_far ++ scalar_shapes m i (drop i kinds) ≡ all → so_far ≡ all
   scalars_done so_far kinds i all beyond rest = sym (append-nil so_far) ∙ sym (ap (λ ks. so_far ++ scalar_shapes m i ks) (drop_all i kinds beyond)) ∙ rest
 
-  pub is_registry : (shapes : List Shape) → shapes ≡ scalar_shapes m 0 prelude_kinds → IsRegistry m (registry_of shapes 16)
+  pub is_registry : LeafLaws m → (shapes : List Shape) → shapes ≡ scalar_shapes m 0 prelude_kinds → IsRegistry m (registry_of shapes 16)
   unfolding prelude
-  is_registry shapes same = subst (λ xs. IsRegistry m (registry_of xs 16)) (sym same) registry_prelude
+  is_registry laws shapes same = subst (λ xs. IsRegistry m (registry_of xs 16)) (sym same) (registry_prelude laws)
+
+  pub is_beside : LeafLaws m → (shapes : List Shape) (tables : Tables) → shapes ≡ scalar_shapes m 0 prelude_kinds → AreTables shapes tables → IsRegistryBeside m (registry_of shapes 16) tables
+  is_beside laws shapes tables same right =
+      let is = is_registry laws shapes same in
+      let all : take 16 shapes ≡ shapes = subst (λ xs. take 16 xs ≡ xs) (sym same) refl in
+      record { is = is; right = subst (λ xs. AreTables xs tables) (sym all) right }
 
   pub is_prelude_by : (shapes : List Shape) → shapes ≡ scalar_shapes m 0 prelude_kinds → registry_of shapes 16 ≡ prelude m
   unfolding prelude

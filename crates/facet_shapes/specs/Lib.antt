@@ -1,4 +1,4 @@
+pub mod Offsets
 pub mod Prelude
 pub mod Registry
-pub mod ValueKind
 pub mod WellFormed

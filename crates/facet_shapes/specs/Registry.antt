@@ -1,13 +1,13 @@
 -- The registry: shapes under their ids, and how many of them are sealed.
 use Rattle.std.specs.Prelude.{ℕ, Bool, false, List, [], ◌∷◌, ◌++◌, Option, None, Some, length, slice_get, take, unwrap_or}
 use Rattle.facet_base.specs.declared.characteristic.Characteristic.{Characteristic}
+use Rattle.facet_causes.specs.Reading.{kind_in}
 use Rattle.facet_shape.specs.declared.shape.Shape.{Shape}
 use Rattle.facet_shape.specs.Capability.{can}
 use Rattle.facet_base.specs.ShapeLayout.{size_in_bytes}
 use Rattle.facet_shape.specs.WithoutSpare.{shape_without_spare}
 use Rattle.facet_outline.specs.declared.value_kind.ValueKind.{ValueKind}
 use Rattle.facet_outline.specs.declared.value_kind.ValueKind.TheVariants as kind
-use Rattle.facet_shapes.specs.ValueKind.{kind_of_shape}
 
 -- the shapes in order of their ids, of which the first ones are sealed
 pub record Registry : Type 0 where
@@ -21,7 +21,7 @@ shape_at registry s = slice_get registry.shapes s
 -- what the values of a shape are, where there is one; else there are none
 abbrev pub kind_of_found : List Shape → Option Shape → ValueKind
 kind_of_found shapes None = kind.NoValue
-kind_of_found shapes (Some shape) = kind_of_shape shapes shape
+kind_of_found shapes (Some shape) = kind_in shapes shape
 
 -- what the values of the shape of an id are
 abbrev pub kind_at : Registry → ℕ → ValueKind
@@ -47,6 +47,10 @@ with_draft registry shape = record registry { shapes = registry.shapes ++ with_i
 -- the registry without its drafts
 abbrev pub without_drafts : Registry → Registry
 without_drafts registry = record registry { shapes = take registry.sealed registry.shapes }
+
+-- the registry with all its shapes sealed
+abbrev pub all_sealed : Registry → Registry
+all_sealed registry = record registry { sealed = length registry.shapes }
 
 -- the values of a shape can do that, where there is one
 abbrev pub offered_by : Option Shape → Characteristic → Bool

@@ -2,14 +2,14 @@
 #![tactic(auto)]
 
 mod capability;
+mod offsets;
 mod registry;
 mod scalar_shape;
-mod shape_list;
-mod value_kind;
 
 pub use capability::{
     all, all_default, all_hash, all_ord, all_partial_eq, all_partial_ord, any, none,
 };
+pub use facet_causes::{SealCause, SealError, SealFault};
 pub use facet_outline::ValueKind;
 pub use facet_shape::Shape;
 pub use registry::Shapes;

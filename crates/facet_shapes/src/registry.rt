@@ -1,14 +1,16 @@
-ghost use Rattle.std.specs.Prelude.{◌≡◌, ◌↔◌, [], ◌∷◌, ◌++◌, ◌+◌, ◌-◌, ◌<◌, ◌^◌, length, option_map, take, IsTrue, IfOk, OnOk, OnErr};
+ghost use Rattle.std.specs.Prelude.{◌≡◌, ◌↔◌, [], ◌∷◌, ◌++◌, ◌+◌, ◌-◌, ◌<◌, ◌^◌, length, option_map, take, IsTrue, IfOk, IfErr, OnOk, OnErr};
 ghost use Rattle.std.specs.Option.{option_copied};
 ghost use Rattle.facet_shape.specs.WithoutSpare.{shape_without_spare};
 ghost use Rattle.facet_shapes.specs.Prelude.{prelude, prelude_kinds, scalar_shape as shape_of, scalar_shapes};
-ghost use Rattle.facet_shapes.specs.Registry.{shape_at, kind_at, size_at, with_draft, without_drafts};
+ghost use Rattle.facet_causes.specs.Causes.{IsWellFormed};
+ghost use Rattle.facet_causes.specs.First.{Explains};
+ghost use Rattle.facet_causes.specs.Tables.{AreTables};
+ghost use Rattle.facet_shapes.specs.Registry.{all_sealed, shape_at, kind_at, size_at, with_draft, without_drafts};
 ghost use Rattle.facet_shapes.specs.WellFormed.{IsRegistry};
 
 use crate::scalar_shape::scalar_shape;
-use crate::shape_list::ShapeList;
-use crate::value_kind::kind_of;
 use facet_base::{ScalarType, ShapeId, ShapeLayout};
+use facet_causes::{SealFault, ShapeList, Tables, check, kind_in};
 use facet_leaf::Leaf;
 use facet_outline::ValueKind;
 use facet_shape::Shape;
@@ -24,18 +26,19 @@ const PRELUDE_LEN: usize = 16;
 pub struct Shapes<L: Leaf> {
     shapes: ShapeList,
     sealed: usize,
+    tables: Tables,
     leaf: PhantomData<L>,
 }
 
 impl<L: Leaf> Model for Shapes<L> {
     ghost use Rattle.facet_shapes.specs.Registry.{Registry};
-    ghost use Rattle.facet_shapes.specs.WellFormed.{IsRegistry};
+    ghost use Rattle.facet_shapes.specs.WellFormed.{IsRegistryBeside};
 
     ghost Value = { Registry };
 
     ghost view = { λ s. record { shapes = s.shapes; sealed = s.sealed } };
 
-    ghost invariant = { λ s. IsRegistry L.model (record { shapes = s.shapes; sealed = s.sealed }) };
+    ghost invariant = { λ s. IsRegistryBeside L.model (record { shapes = s.shapes; sealed = s.sealed }) s.tables };
 }
 
 impl<L: Leaf> Shapes<L> {
@@ -43,9 +46,12 @@ impl<L: Leaf> Shapes<L> {
     pub fn prelude(alloc: Global) -> Result<Shapes<L>, AllocError>
         ensures { IfOk result (λ shapes. shapes ≡ prelude L.model) }
     {
+        let shapes = prelude_shapes::<L>(alloc)?;
+        let tables = prelude_tables::<L>(alloc, &shapes)?;
         Ok(Shapes {
-            shapes: prelude_shapes::<L>(alloc)?,
+            shapes,
             sealed: PRELUDE_LEN,
+            tables,
             leaf: PhantomData,
         })
     }
@@ -109,13 +115,31 @@ impl<L: Leaf> Shapes<L> {
         self.shapes.truncate(self.sealed);
     }
 
+    /// Seals all drafts where no shape meets a cause. A refusal names the first cause, in their order, that some shape
+    /// meets, and the least shape that meets it. A refusal changes nothing, as does out of memory.
+    pub fn seal(&mut self) -> Result<(), SealFault>
+        ensures ok { OnOk result (IsWellFormed L.model self.old.shapes) }
+        ensures sealed { OnOk result (self.new ≡ all_sealed self.old) }
+        ensures refused { IfErr result (Explains L.model self.old.shapes) }
+        ensures err { OnErr result (self.new ≡ self.old) }
+    {
+        check::<L>(
+            self.shapes.allocator(),
+            &self.shapes,
+            self.sealed,
+            &mut self.tables,
+        )?;
+        self.sealed = self.shapes.len();
+        Ok(())
+    }
+
     /// What the values of a shape are. Requires that the id is below `len()`.
     pub fn kind_of(&self, id: ShapeId) -> ValueKind
         requires { id.0 < length self.now.shapes }
         ensures { result ≡ kind_at self.now id.0 }
     {
         match self.get(id) {
-            Some(shape) => kind_of(&self.shapes, shape),
+            Some(shape) => kind_in(&self.shapes, shape),
             None => ValueKind::NoValue,
         }
     }
@@ -148,6 +172,19 @@ fn prelude_shapes<L: Leaf>(alloc: Global) -> Result<ShapeList, AllocError>
         add::<L>(alloc, &mut shapes, kind)?;
     }
     Ok(shapes)
+}
+
+// The tables of the sixteen scalars, none of which meets a cause.
+fn prelude_tables<L: Leaf>(alloc: Global, shapes: &ShapeList) -> Result<Tables, AllocError>
+    requires { shapes.now ≡ scalar_shapes L.model 0 prelude_kinds }
+    ensures { IfOk result (AreTables shapes.now) }
+{
+    let mut tables = Tables::new(alloc);
+    match check::<L>(alloc, shapes, 0, &mut tables) {
+        Ok(()) => Ok(tables),
+        Err(SealFault::NoMemory) => Err(AllocError),
+        Err(SealFault::Refused(_)) => unreachable!(),
+    }
 }
 
 // Adds the shape of the scalars of a kind, under the next id.

@@ -4,6 +4,7 @@ use Rattle.facet_base.specs.declared.scalar_type.ScalarType.{ScalarType}
 use Rattle.facet_leaf.specs.LeafModel.{LeafModel}
 use Rattle.facet_block.specs.declared.block.Item.{Item}
 use Rattle.facet_block.specs.Block.{item_at, leaf_of}
+use Rattle.facet_shapes.proofs.SealedLeaves.{sealed_leaves}
 use Rattle.facet_shapes.specs.Registry.{Registry, kind_at}
 use Rattle.facet_outline.specs.declared.value_kind.ValueKind.{ValueKind}
 use Rattle.facet_outline.specs.declared.value_kind.ValueKind.TheVariants as kind
@@ -40,7 +41,7 @@ module _ {L : Type 0} (m : LeafModel L) (registry : Registry) (is : IsRegistry m
   own_items p q sealed same =
       own_item_same (kind_at registry p.shape) (item_at p.block p.offset) (item_at q.block q.offset)
       (λ k leaves.
-      let e = same.items 0 ((is.well_formed p.shape sealed).room k leaves) in
+      let e = same.items 0 ((sealed_leaves m registry is p.shape sealed).room k leaves) in
       let first : item_at q.block q.offset ≡ item_at p.block p.offset = rw (add-zero, add-zero) at e in
       sym first)
 

@@ -1,13 +1,14 @@
-use super::push;
+use super::{begin, push};
 use facet_base::{
-    Flags, KnownPointer, Layout, Many, MarkerTraits, PointerFlags, ShapeId, ShapeLayout, Text,
+    Flags, KnownPointer, Layout, Many, MarkerTraits, PointerFlags, ScalarType, ShapeId,
+    ShapeLayout, Text,
 };
 use facet_caps::{PointerVTable, SliceVTable};
 use facet_def::{Def, PointerDef, SliceDef};
-use facet_desc::{StructKind, Ty};
+use facet_desc::{StructKind, Ty, UserType};
 use facet_leaf::Scalar;
 use facet_shape::{Shape, ShapeBuilder};
-use facet_shapes::{Shapes, ValueKind};
+use facet_shapes::{SealCause, SealFault, Shapes, ValueKind};
 use std::alloc::{AllocError, Global};
 use std::test::Fail;
 
@@ -172,5 +173,36 @@ fn drafts_are_added_and_cut(rt: HostRuntime) -> Result<(), Fail> {
     assert!(rt; ids == [Some(16), Some(17)]);
     assert!(rt; drafted == (18, 16, Some(17)));
     assert!(rt; cut == (16, 16, None));
+    Ok(())
+}
+
+// What `seal` returns of the drafts so far, as the cause and the shape where it is a refusal, and how many shapes are
+// sealed after it.
+fn sealed_now(shapes: &mut Shapes<Scalar>) -> (Option<(SealCause, u32)>, usize) {
+    let refusal = match shapes.seal() {
+        Err(SealFault::Refused(error)) => Some((error.cause, error.shape.0)),
+        _ => None,
+    };
+    (refusal, shapes.sealed())
+}
+
+// The same of an opaque shape, and then of a shape of scalars whose definition isn't that of scalars.
+fn opaque_and_mismatched(
+    alloc: Global,
+) -> Result<[(Option<(SealCause, u32)>, usize); 2], AllocError> {
+    let mut shapes: Shapes<Scalar> = Shapes::prelude(alloc)?;
+    let opaque = begin(alloc, Text::new(alloc, "A")?);
+    push(&mut shapes, opaque.ty(Ty::User(UserType::Opaque)));
+    let first = sealed_now(&mut shapes);
+    let mismatched = begin(alloc, Text::new(alloc, "B")?);
+    push(&mut shapes, mismatched.scalar(ScalarType::U64));
+    Ok([first, sealed_now(&mut shapes)])
+}
+
+#[test]
+fn drafts_are_sealed_or_the_first_cause_is_named(rt: HostRuntime) -> Result<(), Fail> {
+    let answers = opaque_and_mismatched(rt.alloc())?;
+    assert!(rt; answers[0] == (None, 17));
+    assert!(rt; answers[1] == (Some((SealCause::Mismatch, 17)), 17));
     Ok(())
 }

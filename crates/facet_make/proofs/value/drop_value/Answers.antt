@@ -1,6 +1,7 @@
 use Rattle.std.proofs.Common.{◌≡◌, ◌∙◌, ◌++◌, sym, ap, arith, length}
 use Rattle.std.proofs.lemmas.List.{append-nil}
 use Rattle.facet_base.specs.declared.scalar_type.ScalarType.{ScalarType}
+use Rattle.facet_shapes.proofs.SealedLeaves.{sealed_leaves}
 use Rattle.facet_shapes.specs.Registry.{kind_at}
 use Rattle.facet_outline.specs.declared.value_kind.ValueKind.TheVariants as kind
 use Rattle.facet_values.specs.Place.{place_in}
@@ -35,7 +36,7 @@ returns-in-Leaf-clause-cleared g c =
     let p = place_in c.args.id.0 c.args.place.block.now c.args.place.offset in
     let is = c.requires.readable in
     let of = sym c.in-Leaf.ensures in
-    let some = (c.sealed-sealed.ensures.registry.well_formed c.args.id.0 c.requires.sealed).room c.in-Leaf.field-0 of in
+    let some = (sealed_leaves g.L.Leaf.model c.args.shapes.now c.sealed-sealed.ensures.registry c.args.id.0 c.requires.sealed).room c.in-Leaf.field-0 of in
     rw c.drop_in_place.ensures.empties (cleared_of_leaf g.L.Leaf.model c.args.shapes.now p is.value is.reads c.in-Leaf.field-0 of some)
 
 pub returns-in_default : goal.returns-in_default

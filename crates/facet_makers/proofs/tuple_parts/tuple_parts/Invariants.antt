@@ -1,6 +1,6 @@
 use Rattle.std.proofs.Common.{◌≡◌, drop}
 use Rattle.std.specs.Prelude.{fold}
-use Rattle.facet_makers.specs.PartShape.{part_at}
+use Rattle.facet_shapes.specs.Offsets.{part_at}
 use Rattle.facet_makers.specs.Types.{tuple_parts, with_part}
 use Rattle.facet_makers.proofs.tuple_parts.tuple_parts.Given as goal
 

@@ -1,5 +1,6 @@
 use Rattle.std.proofs.Common.{◌∙◌, ap, sym, subst, Some, None}
 use Rattle.std.proofs.lemmas.Result.{IfOk-weaker}
+use Rattle.facet_shapes.proofs.SealedLeaves.{sealed_leaves}
 use Rattle.facet_shapes.specs.Registry.{kind_at}
 use Rattle.facet_session.specs.declared.refusal.Refusal.TheVariants.{BadText}
 use Rattle.facet_session.specs.Session.{CarriesOut}
@@ -32,7 +33,7 @@ pub add_leaf-requires-clause-room : goal.add_leaf-requires-clause-room
 add_leaf-requires-clause-room g c =
     let of = parsed_kind g.L.Leaf.model g.met.L.Leaf.laws _ _ c.in-Some-2.leaf (sym c.in-Some-2.is ∙ c.in_ok-leaf.ensures) in
     let sealed = (served c.args.session.now.shapes _ c.args.shape.0 c.in_default.ensures.first).0 in
-    (c.refusal_of.ensures.registry.well_formed c.args.shape.0 sealed).room _ of
+    (sealed_leaves g.L.Leaf.model c.args.session.now.shapes c.refusal_of.ensures.registry c.args.shape.0 sealed).room _ of
 
 pub returns-in-Some-2-clause-turn : goal.returns-in-Some-2-clause-turn
 returns-in-Some-2-clause-turn g c =

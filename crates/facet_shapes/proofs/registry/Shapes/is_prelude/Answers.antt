@@ -8,7 +8,7 @@ pub returns : goal.returns
 returns g c =
     let now = c.args.self.now in
     let m = g.L.Leaf.model in
-    let is : IsRegistry m now = subst (IsRegistry m) c.self.view_is c.self.invariant in
+    let is : IsRegistry m now = subst (IsRegistry m) c.self.view_is c.self.invariant.is in
     let count : c.len.result ≡ length now.shapes = c.len.ensures ∙ ap (λ r. length r.shapes) c.self.view_is in (
       (λ test. prelude_alone m now is (sym count ∙ eqb-true c.len.result 16 test)),
       (λ same. eq-eqb c.len.result 16 (count ∙ length_prelude m now same)),

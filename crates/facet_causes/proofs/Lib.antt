@@ -1,0 +1,14 @@
+mod Agree
+mod Entries
+mod Found
+mod Front
+mod FrontTables
+mod Fronts
+mod Inside
+mod KeysOfShape
+mod LargeShapes
+mod NameLengths
+mod Ranks
+mod Readings
+mod SameMeets
+mod Sealed

@@ -1,0 +1,20 @@
+use Rattle.std.proofs.Common.{◌++◌, ap, sym, ◌∙◌}
+use Rattle.std.proofs.lemmas.List.{append-nil}
+use Rattle.std.proofs.lemmas.Result.{IfOk-equal}
+use Rattle.facet_outline.specs.Part.{parts}
+use Rattle.facet_causes.proofs.Readings.{found, parts_found, parts_missing, missing}
+use Rattle.facet_causes.proofs.edges.push_parts_at.Goals as goal
+
+pub returns-in-Some : goal.returns-in-Some
+returns-in-Some c =
+    let shapes = c.args.shapes.now in
+    let shape = c.in-Some.shape.now in
+    let old = c.args.to.now.items in
+    let there = parts_found shapes c.args.s shape (found shapes c.args.s c.get.result c.in-Some.shape c.get.ensures c.in-Some.is) in
+    IfOk-equal c.push_parts.result c.push_parts.new.to.items (old ++ parts c.element_of.result shape) _ c.push_parts.ensures
+    (ap (λ e. old ++ parts e shape) c.element_of.ensures ∙ ap (λ ids. old ++ ids) there)
+
+pub returns-in-None : goal.returns-in-None
+returns-in-None c =
+    let none = parts_missing c.args.shapes.now c.args.s (missing c.args.shapes.now c.args.s c.get.result c.get.ensures c.in-None.is) in
+    sym (append-nil c.args.to.now.items) ∙ ap (λ ids. c.args.to.now.items ++ ids) none
