@@ -12,7 +12,6 @@ use Rattle.facet_causes.specs.Reading.{before_at, before_of, element_of, has_ord
 use Rattle.facet_causes.proofs.Agree.{all_by}
 use Rattle.facet_graph.specs.Reach.{StaysWithin}
 use Rattle.facet_outline.specs.BadLayout.{has_values}
-use Rattle.facet_outline.specs.Name.{name_children, own_name_bytes}
 use Rattle.facet_outline.specs.Part.{fields_of_type, inline_parts, key_of_kind, parts, repetition}
 use Rattle.facet_outline.specs.References.{height_references, parts_of_def, references}
 use Rattle.facet_outline.specs.ValueKind.{kind_of, pointee_of, slice_element}
@@ -21,6 +20,7 @@ use Rattle.facet_outline.specs.declared.value_kind.ValueKind.TheVariants as kind
 use Rattle.facet_outline.proofs.PartReferences.{def_part_is_reference, eager_is_reference, field_is_reference, height_is_eager, inline_is_part, part_is_reference}
 use Rattle.facet_shape.specs.Capability.{can}
 use Rattle.facet_shape.specs.declared.shape.Shape.{Shape}
+use Rattle.facet_type_name.specs.Name.{name_children, own_name_bytes}
 
 -- the shapes refer to each other alone
 abbrev pub AreKnown : List Shape → Type 0

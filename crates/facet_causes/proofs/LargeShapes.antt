@@ -9,7 +9,7 @@ use Rattle.facet_causes.proofs.Sealed.{unweighted_inline}
 use Rattle.facet_graph.specs.Cost.{IsCostEntry}
 use Rattle.facet_graph.specs.Height.{IsHeightEntry, IsWithin}
 use Rattle.facet_graph.proofs.Entries.{costly_entry, high_entry}
-use Rattle.facet_outline.specs.Name.{LeadLower}
+use Rattle.facet_outline.specs.References.{LeadLower}
 use Rattle.facet_shape.specs.declared.shape.Shape.{Shape}
 
 module _ (xs : List Shape) (s : ℕ) (inline_height height : ℕ) (inline : IsHeightEntry (inline_at xs) s inline_height) (some : 0 < inline_height) where

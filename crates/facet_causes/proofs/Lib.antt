@@ -1,14 +1,27 @@
 mod Agree
+pub mod Bounded
+mod CountedTwice
 mod Entries
 mod Found
-mod Front
+pub mod Front
 mod FrontTables
 mod Fronts
 mod Inside
 mod KeysOfShape
+pub mod KeysOrdered
+mod KindsFit
 mod LargeShapes
+pub mod MembersOffered
 mod NameLengths
-mod Ranks
+mod NoneMet
+mod PartLayouts
+pub mod PartsAligned
+pub mod PartsApart
+pub mod PartsInside
+pub mod PartsKnown
+mod PowersOfTwo
+pub mod Ranks
 mod Readings
 mod SameMeets
-mod Sealed
+pub mod Sealed
+pub mod VariantsDistinct

@@ -18,11 +18,11 @@ use Rattle.facet_graph.specs.Reach.{StaysWithin}
 use Rattle.facet_graph.specs.declared.graph.WeightedEdge.{WeightedEdge}
 use Rattle.facet_graph.proofs.Entries.{costly_entry}
 use Rattle.facet_leaf.specs.LeafModel.{LeafModel}
-use Rattle.facet_outline.specs.Name.{IsWhole, LeadLower, full_name, name_children, own_name_bytes}
-use Rattle.facet_outline.specs.References.{eager_references, height_references}
-use Rattle.facet_outline.proofs.FullNames.{name_length, name_of_none, one_level_more, whole_at_its_id}
-use Rattle.facet_outline.proofs.NameChildren.{child_is_height}
+use Rattle.facet_outline.specs.References.{LeadLower, eager_references, height_references}
 use Rattle.facet_shape.specs.declared.shape.Shape.{Shape}
+use Rattle.facet_type_name.specs.Name.{IsWhole, full_name, name_children, own_name_bytes}
+use Rattle.facet_type_name.proofs.FullNames.{name_length, name_of_none, one_level_more, whole_at_its_id}
+use Rattle.facet_type_name.proofs.NameChildren.{child_is_height}
 
 abbrev edge : ℕ → ShapeId → WeightedEdge
 edge weight id = record { node = id.0; weight = weight }

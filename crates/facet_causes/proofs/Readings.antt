@@ -4,14 +4,14 @@ use Rattle.std.specs.Option.{option_copied, option_map_or}
 use Rattle.facet_causes.specs.Reading.{before_of, element_of, has_order, inline_of, lacks_order, name_children_of, own_name_bytes_of, parts_of, repetition_of}
 use Rattle.facet_base.specs.declared.characteristic.Characteristic.TheVariants as trait
 use Rattle.facet_outline.specs.BadLayout.{has_values}
-use Rattle.facet_outline.specs.Name.{name_children, own_name_bytes}
 use Rattle.facet_outline.specs.Part.{inline_parts, parts, repetition}
 use Rattle.facet_outline.specs.References.{height_references}
 use Rattle.facet_outline.proofs.SameItems.{height_references_same, inline_parts_same, kind_same, parts_same}
-use Rattle.facet_outline.proofs.SameNames.{children_same, own_same}
 use Rattle.facet_shape.specs.Capability.{can}
 use Rattle.facet_shape.specs.WithoutSpare.{shape_without_spare}
 use Rattle.facet_shape.specs.declared.shape.Shape.{Shape}
+use Rattle.facet_type_name.specs.Name.{name_children, own_name_bytes}
+use Rattle.facet_type_name.proofs.SameNames.{children_same, own_same}
 
 pub found : (xs : List Shape) (s : ℕ) (r : Option (Bor Shape)) (shape : Bor Shape) → option_map shape_without_spare (option_copied r) ≡ slice_get xs s → r ≡ Some shape → slice_get xs s ≡ Some (shape_without_spare shape.now)
 found xs s r shape got is = sym got ∙ ap (λ o. option_map shape_without_spare (option_copied o)) is

@@ -1,7 +1,14 @@
+pub mod Arrangement
+pub mod Bounds
 pub mod Causes
+pub mod DistinctVariants
 pub mod First
 pub mod KeyNotOrd
+pub mod KnownParts
 pub mod LongName
+pub mod OfferedMembers
+pub mod OrderedKeys
+pub mod PartPlaces
 pub mod Reading
 pub mod Tables
 pub mod TooLarge

@@ -8,13 +8,13 @@ use Rattle.facet_base.specs.declared.layout.ShapeLayout.TheVariants as layout
 use Rattle.facet_def.specs.declared.def.Def.{Def}
 use Rattle.facet_graph.specs.declared.graph.WeightedEdge.{WeightedEdge}
 use Rattle.facet_outline.specs.BadLayout.{has_values}
-use Rattle.facet_outline.specs.Name.{name_children, own_name_bytes}
 use Rattle.facet_outline.specs.Part.{inline_parts, parts, repetition}
 use Rattle.facet_outline.specs.References.{height_references}
 use Rattle.facet_outline.specs.ValueKind.{kind_of, pointee_of, slice_element}
 use Rattle.facet_outline.specs.declared.value_kind.ValueKind.{ValueKind}
 use Rattle.facet_shape.specs.Capability.{can}
 use Rattle.facet_shape.specs.declared.shape.Shape.{Shape}
+use Rattle.facet_type_name.specs.Name.{name_children, own_name_bytes}
 
 -- the ids as indices
 abbrev pub indices : List ShapeId → List ℕ

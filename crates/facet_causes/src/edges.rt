@@ -7,10 +7,8 @@ use crate::reading::{element_of, has_order};
 use crate::shape_list::ShapeList;
 use facet_base::ShapeId;
 use facet_graph::{Graph, Search, WeightedEdge, WeightedGraph};
-use facet_outline::{
-    own_name_bytes, push_height_references, push_inline_parts, push_name_children, push_parts,
-    repetition,
-};
+use facet_outline::{push_height_references, push_inline_parts, push_parts, repetition};
+use facet_type_name::{own_name_bytes, push_name_children};
 use std::alloc::{AllocError, Global};
 
 /// The shapes, with edges to the parts that lie inside their values, once or each as often as it is there.

@@ -42,8 +42,8 @@ pub fn refuse_key<L: Leaf>(
 }
 
 // The least map or set from whose key or item a shape without an order is reached, and None where there is none. No
-// shape before `sealed` is one. Shapes from which none is reached are marked, so over all of them each shape is looked
-// at once.
+// shape before `sealed` is one. Shapes from which none is reached are marked, those before `sealed` whatever comes of
+// the search, so over all of them each shape is looked at once.
 fn first_key_without_order<L: Leaf>(
     alloc: Global,
     shapes: &ShapeList,
@@ -59,7 +59,7 @@ fn first_key_without_order<L: Leaf>(
     ensures len { vec_len ordered.new ≡ vec_len ordered.old }
 {
     for s in sealed..shapes.len() {
-        if has_key_without_order::<L>(alloc, shapes, s, ordered)? {
+        if has_key_without_order::<L>(alloc, shapes, sealed, s, ordered)? {
             return Ok(Some(s));
         }
     }
@@ -70,6 +70,7 @@ fn first_key_without_order<L: Leaf>(
 fn has_key_without_order<L: Leaf>(
     alloc: Global,
     shapes: &ShapeList,
+    sealed: usize,
     s: usize,
     ordered: &mut Vec<bool>,
 ) -> Result<bool, AllocError>
@@ -82,7 +83,7 @@ fn has_key_without_order<L: Leaf>(
 {
     let mut starts = Vec::new(alloc);
     push_keys(shapes, s, &mut starts)?;
-    reaches_bad(alloc, &Parts { alloc, shapes }, starts, ordered)
+    reaches_bad(alloc, &Parts { alloc, shapes }, sealed, starts, ordered)
 }
 
 // Adds the key of a map or the item of a set, if the shape under an id is one.

@@ -6,7 +6,7 @@ ghost use Rattle.facet_causes.specs.TooLarge.{IsTooLarge, each_counts};
 ghost use Rattle.facet_graph.specs.Cost.{AreCosts, IsCostEntry};
 ghost use Rattle.facet_graph.specs.Height.{AreHeights, IsHeightEntry};
 ghost use Rattle.facet_graph.specs.Least.{IsLeast};
-ghost use Rattle.facet_outline.specs.Name.{LeadLower};
+ghost use Rattle.facet_outline.specs.References.{LeadLower};
 
 use crate::cause::SealCause;
 use crate::shape_list::ShapeList;

@@ -15,8 +15,8 @@ mod variants;
 use facet_base::{HookId, Layout, Many, ShapeId, Text};
 use facet_desc::{Attr, AttrData, Field, FieldBuilder, ProxyDef, Variant, VariantBuilder};
 use facet_leaf::Scalar;
+use facet_registry::Shapes;
 use facet_shape::{Shape, ShapeBuilder};
-use facet_shapes::Shapes;
 use std::alloc::{AllocError, Global};
 
 // An attribute that holds a number.

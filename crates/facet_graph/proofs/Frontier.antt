@@ -77,9 +77,13 @@ module _ (edges : ℕ → List ℕ) (bad : ℕ → Bool) (starts : List ℕ) (ol
         | inr same ↦ absurd (not_it t unmarked (sym same))
       ]
 
-  -- the last node that is left is bad
+  -- the last node that is left is reached from a start
+  pub last_reached : (marks : List Bool) (left rest : List ℕ) (n : ℕ) → IsFrontier edges bad starts old marks left → left ≡ rest ++ n ∷ [] → Any (λ s. Reaches edges s n) starts
+  last_reached marks left rest n is split = is.reached n (subst (λ xs. Contains xs n) (sym split) (Contains-push rest n))
+
+  -- and it is bad
   pub finds : (marks : List Bool) (left rest : List ℕ) (n : ℕ) → IsFrontier edges bad starts old marks left → left ≡ rest ++ n ∷ [] → bad n ≡ true → Any (ReachesBad edges bad) starts
-  finds marks left rest n is split found = bad_there (is.reached n (subst (λ xs. Contains xs n) (sym split) (Contains-push rest n)))
+  finds marks left rest n is split found = bad_there (last_reached marks left rest n is split)
     where
       bad_there : Any (λ s. Reaches edges s n) starts → Any (ReachesBad edges bad) starts
       bad_there (k, s, below, at, reaches) = (k, s, below, at, record { node = n; reached = reaches; is_bad = found })

@@ -2,6 +2,7 @@ pub mod Carried
 mod Counting
 pub mod Entries
 mod Frontier
+mod HighNodes
 mod Listed
 mod Spans
 mod Tables

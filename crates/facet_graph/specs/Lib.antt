@@ -1,6 +1,7 @@
 pub mod Components
 pub mod Cost
 pub mod Height
+pub mod HighNodes
 pub mod Labels
 pub mod Least
 pub mod Marks

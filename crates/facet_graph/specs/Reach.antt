@@ -1,5 +1,5 @@
 -- Ways along the edges of a graph. `edges s` lists the nodes to which an edge leads from the node s.
-use Rattle.std.specs.Prelude.{◌≡◌, ℕ, ◌<◌, Bool, true, List, [], ◌∷◌, Contains}
+use Rattle.std.specs.Prelude.{◌≡◌, ℕ, ◌<◌, Bool, true, List, [], ◌∷◌, Contains, cond, nat_lt}
 
 -- from a, one edge after another leads through the nodes of the way, of which b is the last
 abbrev pub Leads : (ℕ → List ℕ) → ℕ → List ℕ → ℕ → Type 0
@@ -26,3 +26,7 @@ pub record ReachesBad (edges : ℕ → List ℕ) (bad : ℕ → Bool) (a : ℕ) 
 -- no edge leads out of the first n nodes
 abbrev pub StaysWithin : (ℕ → List ℕ) → ℕ → Type 0
 StaysWithin edges n = (s t : ℕ) → s < n → Contains (edges s) t → t < n
+
+-- the edges of the nodes from the first on
+abbrev pub edges_from : ℕ → (ℕ → List ℕ) → ℕ → List ℕ
+edges_from first edges s = cond (nat_lt s first) [] (edges s)

@@ -1,4 +1,4 @@
-ghost use Rattle.std.specs.Prelude.{◌≡◌, ◌<◌, ℕ, All, IfOk, OnOk, length, vec_len};
+ghost use Rattle.std.specs.Prelude.{◌≡◌, ◌<◌, ℕ, All, IfOk, OnOk, vec_len};
 ghost use Rattle.facet_graph.specs.Components.{IsInside, node_of};
 ghost use Rattle.facet_graph.specs.Reach.{StaysWithin};
 
@@ -32,12 +32,9 @@ struct Labelling {
 pub(crate) fn component_labels<G: Graph>(
     alloc: Global,
     graph: &G,
-    first: usize,
-    heights: &[u8],
     buffer: &mut Vec<usize>,
 ) -> Result<Vec<usize>, AllocError>
     requires edges { StaysWithin (G.edges graph.now) (G.count graph.now) }
-    requires len { length heights.now ≡ G.count graph.now }
     ensures { IfOk result (λ labels. vec_len labels ≡ G.count graph.now) }
 {
     let mut labelling = Labelling {
@@ -47,37 +44,35 @@ pub(crate) fn component_labels<G: Graph>(
         visited: 0,
         next_label: usize::MAX - 1,
     };
-    for node in first..graph.len() {
+    for node in 0..graph.len() {
         labelling.steps.push(Step::Enter(node))?;
     }
     // No search takes so many steps: the bound shows that it ends.
     for done in 0..usize::MAX {
         match labelling.steps.pop() {
-            Some(Step::Enter(node)) => enter(graph, node, heights, &mut labelling, buffer)?,
-            Some(Step::Leave(node)) => leave(graph, node, heights, &mut labelling, buffer)?,
+            Some(Step::Enter(node)) => enter(graph, node, &mut labelling, buffer)?,
+            Some(Step::Leave(node)) => leave(graph, node, &mut labelling, buffer)?,
             None => return Ok(labelling.labels),
         }
     }
     Ok(labelling.labels)
 }
 
-// Visits a node that is too high, and all that is reached from it before the node is left.
+// Visits a node, and all that is reached from it before the node is left.
 fn enter<G: Graph>(
     graph: &G,
     node: usize,
-    heights: &[u8],
     labelling: &mut Labelling,
     buffer: &mut Vec<usize>,
 ) -> Result<(), AllocError>
     requires edges { StaysWithin (G.edges graph.now) (G.count graph.now) }
     requires node { node < G.count graph.now }
-    requires heights_len { length heights.now ≡ G.count graph.now }
     requires len { vec_len labelling.old.labels ≡ G.count graph.now }
     requires inside { IsInside labelling.old }
     ensures inside { OnOk result (IsInside labelling.new) }
     ensures len { vec_len labelling.new.labels ≡ vec_len labelling.old.labels }
 {
-    if heights[node] > 0 || labelling.labels[node] > 0 {
+    if labelling.labels[node] > 0 {
         return Ok(());
     }
     labelling.visited = labelling.visited.saturating_add(1);
@@ -103,20 +98,18 @@ fn push_steps(nodes: &[usize], steps: &mut Vec<Step>) -> Result<(), AllocError>
 fn leave<G: Graph>(
     graph: &G,
     node: usize,
-    heights: &[u8],
     labelling: &mut Labelling,
     buffer: &mut Vec<usize>,
 ) -> Result<(), AllocError>
     requires edges { StaysWithin (G.edges graph.now) (G.count graph.now) }
     requires node { node < G.count graph.now }
-    requires heights_len { length heights.now ≡ G.count graph.now }
     requires len { vec_len labelling.old.labels ≡ G.count graph.now }
     requires inside { IsInside labelling.old }
     ensures inside { OnOk result (IsInside labelling.new) }
     ensures len { vec_len labelling.new.labels ≡ vec_len labelling.old.labels }
 {
     let own = labelling.labels[node];
-    let least = least_behind(graph, node, heights, &labelling.labels, buffer)?;
+    let least = least_behind(graph, node, &labelling.labels, buffer)?;
     labelling.open_nodes.push(node)?;
     if least < own {
         labelling.labels[node] = least;

@@ -1,4 +1,4 @@
-ghost use Rattle.std.specs.Prelude.{◌≡◌, ◌<◌, ◌↔◌, ◌==◌, ℕ, false, IfOk, IsTrue, length, slice_index_or, vec_len};
+ghost use Rattle.std.specs.Prelude.{◌≡◌, ◌<◌, ◌↔◌, ◌==◌, ℕ, IfOk, IsTrue, length};
 ghost use Rattle.facet_graph.specs.Height.{AreHeights, AreLow};
 ghost use Rattle.facet_graph.specs.Labels.{AreRising};
 ghost use Rattle.facet_graph.specs.Least.{IsLeast};
@@ -6,12 +6,13 @@ ghost use Rattle.facet_graph.specs.Reach.{ReachesItself, StaysWithin};
 
 use crate::graph::{Graph, Search};
 use crate::heights::first_too_high;
+use crate::high_nodes::HighNodes;
 use crate::labels::{least_behind, rising_labels};
-use crate::search::reaches_bad;
+use crate::search::search_from;
 use std::alloc::{AllocError, Global};
 
 /// The least node that reaches itself by one or more edges, and None where no node does. No node before `first` is too
-/// high. Where no node at all is, it only reads the heights from `first` on.
+/// high. It only looks at the nodes from `first` on, and where none of them is too high at their heights alone.
 pub fn first_on_cycle<G: Graph>(
     alloc: Global,
     graph: &G,
@@ -27,55 +28,54 @@ pub fn first_on_cycle<G: Graph>(
     let Some(start) = first_too_high(graph, first, heights) else {
         return Ok(None);
     };
-    let labels = rising_labels(alloc, graph, start, heights)?;
-    for node in start..graph.len() {
-        if is_on_cycle(alloc, graph, node, heights, &labels)? {
+    let nodes = HighNodes {
+        alloc,
+        graph,
+        first: start,
+        heights,
+    };
+    match least_on_cycle(alloc, &nodes)? {
+        Some(node) => Ok(Some(start + node)),
+        None => Ok(None),
+    }
+}
+
+// The same of all nodes.
+fn least_on_cycle<G: Graph>(alloc: Global, graph: &G) -> Result<Option<usize>, AllocError>
+    requires edges { StaysWithin (G.edges graph.now) (G.count graph.now) }
+    ensures { IfOk result (IsLeast (ReachesItself (G.edges graph.now)) (G.count graph.now)) }
+{
+    let labels = rising_labels(alloc, graph)?;
+    for node in 0..graph.len() {
+        if is_on_cycle(alloc, graph, node, &labels)? {
             return Ok(Some(node));
         }
     }
     Ok(None)
 }
 
-// Whether a node reaches itself by one or more edges. One that isn't too high doesn't, nor one from which each edge
-// leads to a higher label. Any other is searched from.
+// Whether a node reaches itself by one or more edges. One from which each edge leads to a higher label doesn't. Any
+// other is searched from.
 fn is_on_cycle<G: Graph>(
     alloc: Global,
     graph: &G,
     node: usize,
-    heights: &[u8],
     labels: &[usize],
 ) -> Result<bool, AllocError>
     requires edges { StaysWithin (G.edges graph.now) (G.count graph.now) }
     requires node { node < G.count graph.now }
-    requires len { length heights.now ≡ G.count graph.now }
-    requires heights { AreHeights (G.edges graph.now) (G.count graph.now) heights.now }
-    requires labels_len { length labels.now ≡ G.count graph.now }
-    requires rising { AreRising (G.edges graph.now) (G.count graph.now) heights.now labels.now }
+    requires len { length labels.now ≡ G.count graph.now }
+    requires rising { AreRising (G.edges graph.now) (G.count graph.now) labels.now }
     ensures { IfOk result (λ found. IsTrue found ↔ ReachesItself (G.edges graph.now) node) }
 {
-    if heights[node] > 0 {
-        return Ok(false);
-    }
     let mut starts = Vec::new(alloc);
-    if labels[node] < least_behind(graph, node, heights, labels, &mut starts)? {
+    if labels[node] < least_behind(graph, node, labels, &mut starts)? {
         return Ok(false);
     }
     starts.clear();
     graph.push_edges(node, &mut starts)?;
-    let mut marks = marks_of_low(alloc, heights)?;
-    reaches_bad(alloc, &Back { graph, node }, starts, &mut marks)
-}
-
-// A mark on each node that isn't too high.
-fn marks_of_low(alloc: Global, heights: &[u8]) -> Result<Vec<bool>, AllocError>
-    ensures len { IfOk result (λ marks. vec_len marks ≡ length heights.now) }
-    ensures marks { IfOk result (λ marks. (s : ℕ) → IsTrue (slice_index_or marks.items s false) → 0 < slice_index_or heights.now s 0) }
-{
-    let mut marks = Vec::with_capacity(alloc, heights.len())?;
-    for height in heights {
-        marks.push(*height > 0)?;
-    }
-    Ok(marks)
+    let mut marks = vec![in alloc; false; graph.len()]?;
+    search_from(alloc, &Back { graph, node }, starts, &mut marks)
 }
 
 // The graph in which one node is bad.

@@ -11,6 +11,7 @@ mod costs;
 mod cycles;
 mod graph;
 mod heights;
+mod high_nodes;
 mod labels;
 mod overlap;
 mod repeats;

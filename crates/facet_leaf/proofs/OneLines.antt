@@ -52,7 +52,7 @@ digits_in_front (suc k) base n text h =
     chosen (nat_eq (n / base) 0) _ _ one (λ _. digits_in_front k base (n / base) (digit_glyph false (n % base) ∷ text) one)
 
 -- a number in digits
-number : (base n : ℕ) → IsOneLine (digits base false n)
+pub number : (base n : ℕ) → IsOneLine (digits base false n)
 unfolding digits
 number base n = digits_in_front 64 base n [] none
 

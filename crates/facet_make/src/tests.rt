@@ -1,11 +1,11 @@
-ghost use Rattle.std.specs.Prelude.{◌≡◌, ◌<◌, IfOk};
-ghost use Rattle.facet_shapes.specs.Registry.{size_at};
+ghost use Rattle.std.specs.Prelude.{◌≡◌, ◌<◌, length, IfOk};
+ghost use Rattle.facet_registry.specs.Registry.{size_at};
 ghost use Rattle.facet_values.specs.Place.{leaf_block};
 
 use crate::{drop_value, leaf_at};
 use facet_base::{Characteristic, ShapeId};
 use facet_block::{Block, DropLog, Leaf, PtrConst, PtrMut, PtrUninit, Scalar};
-use facet_shapes::{Shapes, ValueKind};
+use facet_registry::{Shapes, ValueKind};
 use std::alloc::{AllocError, Global};
 use std::test::Fail;
 
@@ -16,8 +16,9 @@ fn block_of<L: Leaf>(
     id: ShapeId,
     leaf: L,
 ) -> Result<Block<L>, AllocError>
-    requires { 0 < size_at shapes.now id.0 }
-    ensures { IfOk result (λ block. block ≡ leaf_block (size_at shapes.now id.0) leaf) }
+    requires sealed { id.0 < length shapes.now.sealed }
+    requires room { 0 < size_at shapes.now.sealed id.0 }
+    ensures { IfOk result (λ block. block ≡ leaf_block (size_at shapes.now.sealed id.0) leaf) }
 {
     let mut block = Block::new(alloc, shapes.size_of(id))?;
     PtrUninit::new(&mut block, 0).put(leaf);

@@ -1,26 +1,26 @@
 ghost use Rattle.std.specs.Prelude.{◌≡◌, ◌<◌, ◌≤◌, ◌+◌, ◌++◌, length};
 ghost use Rattle.facet_block.specs.Span.{span, IsCleared};
-ghost use Rattle.facet_shapes.specs.Registry.{size_at};
+ghost use Rattle.facet_registry.specs.Registry.{size_at};
 ghost use Rattle.facet_values.specs.Place.{place_in};
 ghost use Rattle.facet_values.specs.Reading.{Reads, IsReadable};
 ghost use Rattle.facet_values.specs.Value.{Value, leaves};
 
 use facet_base::ShapeId;
 use facet_block::{DropLog, Leaf, PtrMut};
-use facet_shapes::{Shapes, ValueKind};
+use facet_registry::{Shapes, ValueKind};
 
 /// Drops the value at a place. Its leaves go to the log, which has room for them, and the range of the place is empty
 /// afterwards. Requires that the shape is sealed and the place holds a value of it.
 pub fn drop_value<L: Leaf>(shapes: &Shapes<L>, id: ShapeId, place: PtrMut<L>, log: &mut DropLog<L>)
-    requires sealed { id.0 < shapes.now.sealed }
-    requires readable { IsReadable L.model shapes.now (place_in id.0 place.block.now place.offset) }
-    requires room { (v : Value L) → Reads L.model shapes.now (place_in id.0 place.block.now place.offset) v
+    requires sealed { id.0 < length shapes.now.sealed }
+    requires readable { IsReadable L.model shapes.now.sealed (place_in id.0 place.block.now place.offset) }
+    requires room { (v : Value L) → Reads L.model shapes.now.sealed (place_in id.0 place.block.now place.offset) v
         → length (leaves v) ≤ log.old.spare }
-    ensures leaves { (v : Value L) → Reads L.model shapes.now (place_in id.0 place.entry.block.now place.entry.offset) v
+    ensures leaves { (v : Value L) → Reads L.model shapes.now.sealed (place_in id.0 place.entry.block.now place.entry.offset) v
         → log.new.leaves ≡ log.old.leaves ++ leaves v }
-    ensures spare { (v : Value L) → Reads L.model shapes.now (place_in id.0 place.entry.block.now place.entry.offset) v
+    ensures spare { (v : Value L) → Reads L.model shapes.now.sealed (place_in id.0 place.entry.block.now place.entry.offset) v
         → log.old.spare ≤ log.new.spare + length (leaves v) }
-    ensures cleared { IsCleared place.entry.block.now place.exit.0.now (span place.entry.offset (size_at shapes.now id.0)) }
+    ensures cleared { IsCleared place.entry.block.now place.exit.0.now (span place.entry.offset (size_at shapes.now.sealed id.0)) }
 {
     // proof: the registry says that a shape of leaves has a byte for them.
     let _sealed = shapes.sealed();

@@ -14,7 +14,7 @@ use Rattle.facet_desc.specs.declared.ty.UserType.TheVariants as user
 use Rattle.facet_desc.specs.declared.variant.Variant.{Variant}
 use Rattle.facet_shape.specs.WithoutSpare.{shape_without_spare}
 use Rattle.facet_shape.specs.declared.shape.Shape.{Shape}
-use Rattle.facet_shapes.specs.Registry.{Registry, with_draft, with_id}
+use Rattle.facet_registry.specs.Registry.{Registry, all_shapes, with_draft, with_id}
 
 map_twice : {A : Type 0} (f : A → A) → ((x : A) → f (f x) ≡ f x) → (xs : List A) → map f (map f xs) ≡ map f xs
 map_twice f h [] = refl
@@ -58,4 +58,4 @@ shape_twice s = ap (λ t. record (shape_without_spare s) { ty = t }) (ty_twice s
 
 -- a draft is told by its lists
 pub draft_by_items : (registry : Registry) (s : Shape) → with_draft registry (shape_without_spare s) ≡ with_draft registry s
-draft_by_items registry s = ap (λ t. record registry { shapes = registry.shapes ++ with_id (length registry.shapes) t ∷ [] }) (shape_twice s)
+draft_by_items registry s = ap (λ t. record registry { drafts = registry.drafts ++ with_id (length (all_shapes registry)) t ∷ [] }) (shape_twice s)

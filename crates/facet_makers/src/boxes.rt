@@ -1,6 +1,6 @@
 ghost use Rattle.std.specs.Prelude.{◌≡◌, ◌<◌, ◌-◌, ◌^◌, length, IfOk, OnOk, OnErr, IsFalse, IsTrue};
 ghost use Rattle.facet_shape.specs.WithoutSpare.{shape_without_spare};
-ghost use Rattle.facet_shapes.specs.Registry.{with_draft};
+ghost use Rattle.facet_registry.specs.Registry.{all_shapes, with_draft};
 ghost use Rattle.facet_makers.specs.Makers.{box_of, box_shape, boxed_slice_shape};
 ghost use Rattle.facet_makers.specs.Slices.{is_slice_at};
 
@@ -14,8 +14,8 @@ use facet_def::{Def, PointerDef};
 use facet_desc::{Ty, UserType};
 use facet_leaf::Leaf;
 use facet_outline::ValueKind;
+use facet_registry::Shapes;
 use facet_shape::Shape;
-use facet_shapes::Shapes;
 use std::alloc::{AllocError, Global};
 
 /// Drafts the shape of a box of the shape `t`, `Box<T>`. A refusal changes nothing.
@@ -25,10 +25,10 @@ pub fn box_of<L: Leaf>(
     shapes: &mut Shapes<L>,
     t: ShapeId,
 ) -> Result<ShapeId, AllocError>
-    requires t { t.0 < length shapes.old.shapes }
-    requires sized { IsFalse (is_slice_at shapes.old t.0) }
-    requires room { length shapes.old.shapes < 2 ^ 32 - 1 }
-    ensures id { IfOk result (λ id. id.0 ≡ length shapes.old.shapes) }
+    requires t { t.0 < length (all_shapes shapes.old) }
+    requires sized { IsFalse (is_slice_at (all_shapes shapes.old) t.0) }
+    requires room { length (all_shapes shapes.old) < 2 ^ 32 - 1 }
+    ensures id { IfOk result (λ id. id.0 ≡ length (all_shapes shapes.old)) }
     ensures ok { OnOk result (shapes.new ≡ with_draft shapes.old (box_shape L.model t)) }
     ensures err { OnErr result (shapes.new ≡ shapes.old) }
 {
@@ -62,10 +62,10 @@ pub fn boxed_slice_of<L: Leaf>(
     shapes: &mut Shapes<L>,
     t: ShapeId,
 ) -> Result<ShapeId, AllocError>
-    requires t { t.0 < length shapes.old.shapes }
-    requires slice { IsTrue (is_slice_at shapes.old t.0) }
-    requires room { length shapes.old.shapes < 2 ^ 32 - 1 }
-    ensures id { IfOk result (λ id. id.0 ≡ length shapes.old.shapes) }
+    requires t { t.0 < length (all_shapes shapes.old) }
+    requires slice { IsTrue (is_slice_at (all_shapes shapes.old) t.0) }
+    requires room { length (all_shapes shapes.old) < 2 ^ 32 - 1 }
+    ensures id { IfOk result (λ id. id.0 ≡ length (all_shapes shapes.old)) }
     ensures ok { OnOk result (shapes.new ≡ with_draft shapes.old (boxed_slice_shape L.model t)) }
     ensures err { OnErr result (shapes.new ≡ shapes.old) }
 {

@@ -1,8 +1,8 @@
 ghost use Rattle.std.specs.Prelude.{◌≡◌, ◌<◌, ◌-◌, ◌^◌, length, IfOk, OnOk, OnErr};
 ghost use Rattle.facet_shape.specs.WithoutSpare.{shape_without_spare};
-ghost use Rattle.facet_shapes.specs.Registry.{with_draft};
+ghost use Rattle.facet_registry.specs.Registry.{all_shapes, with_draft};
 ghost use Rattle.facet_makers.specs.Makers.{map_shape};
-ghost use Rattle.facet_shapes.specs.Offsets.{part_at};
+ghost use Rattle.facet_registry.specs.Offsets.{part_at};
 
 use crate::draft::draft;
 use crate::generic::{in_module, with_parameter};
@@ -13,8 +13,8 @@ use facet_def::{Def, MapDef};
 use facet_desc::{Ty, UserType};
 use facet_leaf::Leaf;
 use facet_outline::ValueKind;
+use facet_registry::Shapes;
 use facet_shape::Shape;
-use facet_shapes::Shapes;
 use std::alloc::{AllocError, Global};
 
 /// Drafts the shape of a map from the shape `k` to the shape `v`, `BTreeMap<K, V>`. A refusal changes nothing.
@@ -25,11 +25,11 @@ pub fn map_of<L: Leaf>(
     k: ShapeId,
     v: ShapeId,
 ) -> Result<ShapeId, AllocError>
-    requires k { k.0 < length shapes.old.shapes }
-    requires v { v.0 < length shapes.old.shapes }
-    requires room { length shapes.old.shapes < 2 ^ 32 - 1 }
-    ensures id { IfOk result (λ id. id.0 ≡ length shapes.old.shapes) }
-    ensures ok { OnOk result (shapes.new ≡ with_draft shapes.old (map_shape L.model k v (part_at shapes.old k.0) (part_at shapes.old v.0))) }
+    requires k { k.0 < length (all_shapes shapes.old) }
+    requires v { v.0 < length (all_shapes shapes.old) }
+    requires room { length (all_shapes shapes.old) < 2 ^ 32 - 1 }
+    ensures id { IfOk result (λ id. id.0 ≡ length (all_shapes shapes.old)) }
+    ensures ok { OnOk result (shapes.new ≡ with_draft shapes.old (map_shape L.model k v (part_at (all_shapes shapes.old) k) (part_at (all_shapes shapes.old) v))) }
     ensures err { OnErr result (shapes.new ≡ shapes.old) }
 {
     let key = shapes.part_layout(k);

@@ -1,8 +1,8 @@
 ghost use Rattle.std.specs.Prelude.{◌≡◌, ◌<◌, ◌-◌, ◌^◌, length, IfOk, OnOk, OnErr};
 ghost use Rattle.facet_shape.specs.WithoutSpare.{shape_without_spare};
-ghost use Rattle.facet_shapes.specs.Registry.{with_draft};
+ghost use Rattle.facet_registry.specs.Registry.{all_shapes, with_draft};
 ghost use Rattle.facet_makers.specs.Makers.{option_shape};
-ghost use Rattle.facet_shapes.specs.Offsets.{part_at};
+ghost use Rattle.facet_registry.specs.Offsets.{part_at};
 
 use crate::draft::draft;
 use crate::generic::{in_module, with_parameter};
@@ -14,8 +14,8 @@ use facet_def::{Def, OptionDef};
 use facet_desc::Ty;
 use facet_leaf::Leaf;
 use facet_outline::{ValueKind, option_layout};
+use facet_registry::Shapes;
 use facet_shape::Shape;
-use facet_shapes::Shapes;
 use std::alloc::{AllocError, Global};
 
 /// Drafts the shape of an option of the shape `t`, `Option<T>`. A refusal changes nothing.
@@ -25,10 +25,10 @@ pub fn option_of<L: Leaf>(
     shapes: &mut Shapes<L>,
     t: ShapeId,
 ) -> Result<ShapeId, AllocError>
-    requires t { t.0 < length shapes.old.shapes }
-    requires room { length shapes.old.shapes < 2 ^ 32 - 1 }
-    ensures id { IfOk result (λ id. id.0 ≡ length shapes.old.shapes) }
-    ensures ok { OnOk result (shapes.new ≡ with_draft shapes.old (option_shape L.model t (part_at shapes.old t.0))) }
+    requires t { t.0 < length (all_shapes shapes.old) }
+    requires room { length (all_shapes shapes.old) < 2 ^ 32 - 1 }
+    ensures id { IfOk result (λ id. id.0 ≡ length (all_shapes shapes.old)) }
+    ensures ok { OnOk result (shapes.new ≡ with_draft shapes.old (option_shape L.model t (part_at (all_shapes shapes.old) t))) }
     ensures err { OnErr result (shapes.new ≡ shapes.old) }
 {
     let part = shapes.part_layout(t);

@@ -1,8 +1,8 @@
 ghost use Rattle.std.specs.Prelude.{◌≡◌, ◌<◌, ◌-◌, ◌^◌, length, IfOk, OnOk, OnErr};
 ghost use Rattle.facet_shape.specs.WithoutSpare.{shape_without_spare};
-ghost use Rattle.facet_shapes.specs.Registry.{with_draft};
+ghost use Rattle.facet_registry.specs.Registry.{all_shapes, with_draft};
 ghost use Rattle.facet_makers.specs.Makers.{result_shape};
-ghost use Rattle.facet_shapes.specs.Offsets.{part_at};
+ghost use Rattle.facet_registry.specs.Offsets.{part_at};
 
 use crate::draft::draft;
 use crate::generic::{in_module, with_parameter};
@@ -13,8 +13,8 @@ use facet_def::{Def, ResultDef};
 use facet_desc::{Ty, UserType};
 use facet_leaf::Leaf;
 use facet_outline::{ValueKind, result_layout};
+use facet_registry::Shapes;
 use facet_shape::Shape;
-use facet_shapes::Shapes;
 use std::alloc::{AllocError, Global};
 
 /// Drafts the shape of a result, which holds the shape `t` or the shape `e`, `Result<T, E>`. A refusal changes nothing.
@@ -25,11 +25,11 @@ pub fn result_of<L: Leaf>(
     t: ShapeId,
     e: ShapeId,
 ) -> Result<ShapeId, AllocError>
-    requires t { t.0 < length shapes.old.shapes }
-    requires e { e.0 < length shapes.old.shapes }
-    requires room { length shapes.old.shapes < 2 ^ 32 - 1 }
-    ensures id { IfOk result (λ id. id.0 ≡ length shapes.old.shapes) }
-    ensures ok { OnOk result (shapes.new ≡ with_draft shapes.old (result_shape L.model t e (part_at shapes.old t.0) (part_at shapes.old e.0))) }
+    requires t { t.0 < length (all_shapes shapes.old) }
+    requires e { e.0 < length (all_shapes shapes.old) }
+    requires room { length (all_shapes shapes.old) < 2 ^ 32 - 1 }
+    ensures id { IfOk result (λ id. id.0 ≡ length (all_shapes shapes.old)) }
+    ensures ok { OnOk result (shapes.new ≡ with_draft shapes.old (result_shape L.model t e (part_at (all_shapes shapes.old) t) (part_at (all_shapes shapes.old) e))) }
     ensures err { OnErr result (shapes.new ≡ shapes.old) }
 {
     let part = shapes.part_layout(t);

@@ -1,6 +1,6 @@
 ghost use Rattle.std.specs.Prelude.{◌≡◌, ◌<◌, ◌-◌, ◌^◌, length, IfOk, OnOk, OnErr};
 ghost use Rattle.facet_shape.specs.WithoutSpare.{shape_without_spare};
-ghost use Rattle.facet_shapes.specs.Registry.{with_draft};
+ghost use Rattle.facet_registry.specs.Registry.{all_shapes, with_draft};
 ghost use Rattle.facet_makers.specs.Makers.{slice_shape};
 
 use crate::draft::draft;
@@ -12,8 +12,8 @@ use facet_def::{Def, SliceDef};
 use facet_desc::{SequenceType, SliceType, Ty};
 use facet_leaf::Leaf;
 use facet_outline::ValueKind;
+use facet_registry::Shapes;
 use facet_shape::Shape;
-use facet_shapes::Shapes;
 use std::alloc::{AllocError, Global};
 
 /// Drafts the shape of a slice of elements of the shape `t`, `[T]`. A refusal changes nothing.
@@ -23,9 +23,9 @@ pub fn slice_of<L: Leaf>(
     shapes: &mut Shapes<L>,
     t: ShapeId,
 ) -> Result<ShapeId, AllocError>
-    requires t { t.0 < length shapes.old.shapes }
-    requires room { length shapes.old.shapes < 2 ^ 32 - 1 }
-    ensures id { IfOk result (λ id. id.0 ≡ length shapes.old.shapes) }
+    requires t { t.0 < length (all_shapes shapes.old) }
+    requires room { length (all_shapes shapes.old) < 2 ^ 32 - 1 }
+    ensures id { IfOk result (λ id. id.0 ≡ length (all_shapes shapes.old)) }
     ensures ok { OnOk result (shapes.new ≡ with_draft shapes.old (slice_shape L.model t)) }
     ensures err { OnErr result (shapes.new ≡ shapes.old) }
 {

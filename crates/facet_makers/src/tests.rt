@@ -4,8 +4,8 @@ use crate::{
 };
 use facet_base::{Layout, ShapeId, ShapeLayout, Text};
 use facet_leaf::Scalar;
+use facet_registry::{Shapes, ValueKind};
 use facet_shape::ShapeBuilder;
-use facet_shapes::{Shapes, ValueKind};
 use std::alloc::{AllocError, Global};
 use std::test::Fail;
 

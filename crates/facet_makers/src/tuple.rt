@@ -1,9 +1,9 @@
 ghost use Rattle.std.specs.Prelude.{◌≡◌, ◌<◌, ◌≤◌, ◌-◌, ◌^◌, length, IfOk, OnOk, OnErr};
 ghost use Rattle.std.specs.List.{All};
 ghost use Rattle.facet_shape.specs.WithoutSpare.{shape_without_spare};
-ghost use Rattle.facet_shapes.specs.Registry.{with_draft};
+ghost use Rattle.facet_registry.specs.Registry.{all_shapes, with_draft};
 ghost use Rattle.facet_makers.specs.Makers.{tuple_of, tuple_shape};
-ghost use Rattle.facet_shapes.specs.Offsets.{part_at};
+ghost use Rattle.facet_registry.specs.Offsets.{part_at};
 ghost use Rattle.facet_makers.specs.Types.{tuple_identifier};
 
 use crate::draft::draft;
@@ -14,8 +14,8 @@ use facet_base::{NameForm, ShapeId, ShapeLayout};
 use facet_desc::{Repr, StructKind, StructType, Ty, UserType};
 use facet_leaf::Leaf;
 use facet_outline::{ValueKind, rounded};
+use facet_registry::Shapes;
 use facet_shape::Shape;
-use facet_shapes::Shapes;
 use std::alloc::{AllocError, Global};
 
 /// Drafts the shape of a tuple of parts of these shapes. A refusal changes nothing.
@@ -27,10 +27,10 @@ pub fn tuple_of<L: Leaf>(
 ) -> Result<ShapeId, AllocError>
     requires some { 0 < length parts.now }
     requires few { length parts.now ≤ 12 }
-    requires parts { All (λ t. t.0 < length shapes.old.shapes) parts.now }
-    requires room { length shapes.old.shapes < 2 ^ 32 - 1 }
-    ensures id { IfOk result (λ id. id.0 ≡ length shapes.old.shapes) }
-    ensures ok { OnOk result (shapes.new ≡ with_draft shapes.old (tuple_shape (λ t. part_at shapes.old t.0) parts.now)) }
+    requires parts { All (λ t. t.0 < length (all_shapes shapes.old)) parts.now }
+    requires room { length (all_shapes shapes.old) < 2 ^ 32 - 1 }
+    ensures id { IfOk result (λ id. id.0 ≡ length (all_shapes shapes.old)) }
+    ensures ok { OnOk result (shapes.new ≡ with_draft shapes.old (tuple_shape (λ t. part_at (all_shapes shapes.old) t) parts.now)) }
     ensures err { OnErr result (shapes.new ≡ shapes.old) }
 {
     let tuple = tuple_parts(alloc, shapes, parts)?;

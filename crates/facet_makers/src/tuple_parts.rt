@@ -1,14 +1,15 @@
 ghost use Rattle.std.specs.Prelude.{◌≡◌, ◌<◌, ◌≤◌, ◌^◌, IfOk, decimal, fold};
 ghost use Rattle.facet_desc.specs.Field.{fresh_field};
 ghost use Rattle.facet_desc.specs.WithoutSpare.{field_without_spare};
-ghost use Rattle.facet_shapes.specs.Offsets.{part_at};
+ghost use Rattle.facet_registry.specs.Offsets.{part_at};
+ghost use Rattle.facet_registry.specs.Registry.{all_shapes};
 ghost use Rattle.facet_makers.specs.Types.{no_parts, tuple_parts, with_part};
 
 use facet_base::{Layout, Many, ShapeId, Text};
 use facet_desc::{Field, FieldBuilder};
 use facet_leaf::Leaf;
 use facet_outline::next_offset;
-use facet_shapes::Shapes;
+use facet_registry::Shapes;
 use std::alloc::{AllocError, Global};
 use std::marker::Model;
 
@@ -75,7 +76,7 @@ pub fn tuple_parts<L: Leaf>(
     shapes: &Shapes<L>,
     ids: &[ShapeId],
 ) -> Result<TupleParts, AllocError>
-    ensures { IfOk result (λ tuple. tuple ≡ tuple_parts (λ t. part_at shapes.now t.0) ids.now) }
+    ensures { IfOk result (λ tuple. tuple ≡ tuple_parts (part_at (all_shapes shapes.now)) ids.now) }
 {
     let mut tuple = TupleParts::new(alloc);
     for t in ids {

@@ -3,7 +3,6 @@ pub mod Discriminant
 pub mod Field
 pub mod Layout
 pub mod Mismatch
-pub mod Name
 pub mod Offered
 pub mod Part
 pub mod References

@@ -1,5 +1,5 @@
 -- The shapes that a shape refers to.
-use Rattle.std.specs.Prelude.{Bool, true, false, List, [], ◌∷◌, ◌++◌, if◌then◌else◌, map, option_map}
+use Rattle.std.specs.Prelude.{◌≡◌, ℕ, ◌<◌, Bool, true, false, All, List, [], ◌∷◌, ◌++◌, if◌then◌else◌, map, Some, option_map, slice_get}
 use Rattle.std.specs.List.{flat_map}
 use Rattle.std.specs.Option.{option_to_list}
 use Rattle.facet_base.specs.declared.layout.ShapeId.{ShapeId}
@@ -102,3 +102,7 @@ other_references s = fields_of_other s.ty ++ weak_of_def s.def ++ flat_map (λ a
 -- all shapes that it refers to
 unfoldable pub references : Shape → List ShapeId
 references s = eager_references s ++ other_references s
+
+-- each shape of a list stands behind those that must stand before it
+abbrev pub LeadLower : List Shape → Type 0
+LeadLower shapes = (s : ℕ) (shape : Shape) → slice_get shapes s ≡ Some shape → All (λ r. r.0 < s) (eager_references shape)

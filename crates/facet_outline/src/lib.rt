@@ -9,15 +9,11 @@ pub mod laws;
 mod layout;
 mod lookup;
 mod mismatch;
-mod name;
-pub mod name_laws;
 mod offered;
 mod parts;
 mod placed_fields;
 mod references;
 mod refers;
-#[cfg(test)]
-mod tests;
 mod value_kind;
 
 pub use bad_layout::{
@@ -32,12 +28,14 @@ pub use layout::{
 };
 pub use lookup::LayoutLookup;
 pub use mismatch::is_mismatched;
-pub use name::{own_name_bytes, push_name_children};
 pub use offered::{has_unoffered_member, offered_capabilities, offered_operations};
 pub use parts::{key_of_kind, push_inline_parts, push_parts, repetition};
 pub use placed_fields::{
     PlacedField, body_count, has_field_misaligned, has_field_outside, is_packed_struct, push_body,
     push_placed_fields, push_spans, tag_bytes,
 };
-pub use references::{push_eager_references, push_height_references, push_references};
+pub use references::{
+    push_eager_references, push_height_references, push_references, push_tuple_fields,
+};
+pub use refers::{Refers, push_each};
 pub use value_kind::{ValueKind, kind_of, pointee_of, slice_element};

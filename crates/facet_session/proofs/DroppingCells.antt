@@ -3,7 +3,7 @@ use Rattle.std.proofs.Common.{◌≡◌, ℕ, ◌+◌, List, ◌∷◌, ◌++◌
 use Rattle.std.proofs.lemmas.List.{drop-drop, drop-set-lt, drop_more}
 use Rattle.std.proofs.lemmas.Option.{slice_get_within, get_or_from_slice_get}
 use Rattle.facet_base.proofs.Lists.{slice_get_drop}
-use Rattle.facet_shapes.specs.Registry.{Registry}
+use Rattle.facet_shape.specs.declared.shape.Shape.{Shape}
 use Rattle.facet_session.specs.declared.session.Cell.{Cell}
 use Rattle.facet_session.specs.Cell.{stored_in, stored_in_all}
 
@@ -17,11 +17,11 @@ same_behind xs ys i x rest =
     drop-set-lt (i + 1) xs i x (omega arith) ∙ sym (drop-drop 1 i xs) ∙ ap (drop 1) rest ∙ drop-drop 1 i ys
 
 -- the leaves of the cell at a place are those that come next
-pub next_stored : {L : Type 0} (registry : Registry) (cells : List (Cell L)) (i : ℕ) (cell : Cell L) (before now all : List L) → slice_get cells i ≡ Some cell
-    → before ++ stored_in_all registry (drop i cells) ≡ all → now ≡ before ++ stored_in registry cell → now ++ stored_in_all registry (drop (i + 1) cells) ≡ all
-next_stored registry cells i cell before now all here rest grown =
+pub next_stored : {L : Type 0} (shapes : List Shape) (cells : List (Cell L)) (i : ℕ) (cell : Cell L) (before now all : List L) → slice_get cells i ≡ Some cell
+    → before ++ stored_in_all shapes (drop i cells) ≡ all → now ≡ before ++ stored_in shapes cell → now ++ stored_in_all shapes (drop (i + 1) cells) ≡ all
+next_stored shapes cells i cell before now all here rest grown =
     let step = drop_more cells i cell (slice_get_within cells i cell here) ∙ ap (λ c. c ∷ drop (i + 1) cells) (get_or_from_slice_get cells i cell cell here) in
-    ap (λ xs. xs ++ stored_in_all registry (drop (i + 1) cells)) grown
-    ∙ append_assoc before (stored_in registry cell) (stored_in_all registry (drop (i + 1) cells))
-    ∙ ap (λ cs. before ++ stored_in_all registry cs) (sym step)
+    ap (λ xs. xs ++ stored_in_all shapes (drop (i + 1) cells)) grown
+    ∙ append_assoc before (stored_in shapes cell) (stored_in_all shapes (drop (i + 1) cells))
+    ∙ ap (λ cs. before ++ stored_in_all shapes cs) (sym step)
     ∙ rest

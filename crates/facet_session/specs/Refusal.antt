@@ -1,7 +1,7 @@
 -- The refusals that commands share: their words, and when they come.
-use Rattle.std.specs.Prelude.{ℕ, Bool, List, [], ◌∷◌, Option, None, Some, if◌then◌else◌, codes, bytes_eq, nat_le}
+use Rattle.std.specs.Prelude.{ℕ, Bool, List, [], ◌∷◌, length, Option, None, Some, if◌then◌else◌, codes, bytes_eq, nat_le}
 use Rattle.std.specs.List.{list_any}
-use Rattle.facet_shapes.specs.Registry.{Registry}
+use Rattle.facet_shape.specs.declared.shape.Shape.{Shape}
 use Rattle.facet_session.specs.State.{State}
 use Rattle.facet_session.specs.declared.refusal.Refusal.{Refusal}
 use Rattle.facet_session.specs.declared.refusal.Refusal.TheVariants.{Syntax, NoSuchShape, Taken, WrongShape, BadText, Unsupported}
@@ -21,8 +21,8 @@ first_refusal [] = None
 first_refusal (first ∷ rest) = if first.0 then Some first.1 else first_refusal rest
 
 -- no sealed shape has the id
-abbrev pub is_unsealed : Registry → ℕ → Bool
-is_unsealed registry s = nat_le registry.sealed s
+abbrev pub is_unsealed : List Shape → ℕ → Bool
+is_unsealed shapes s = nat_le (length shapes) s
 
 -- an entry has the name
 abbrev pub is_taken : {L : Type 0} → State L → List ℕ → Bool

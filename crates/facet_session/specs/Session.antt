@@ -2,8 +2,9 @@
 use Rattle.std.specs.Prelude.{◌≡◌, ◌<◌, List, [], ◌∷◌, length, Contains}
 use Rattle.facet_block.specs.Block.{size_of}
 use Rattle.facet_leaf.specs.LeafModel.{LeafModel}
-use Rattle.facet_shapes.specs.Prelude.{prelude}
-use Rattle.facet_shapes.specs.Registry.{Registry, size_at}
+use Rattle.facet_registry.specs.Prelude.{prelude}
+use Rattle.facet_registry.specs.Registry.{size_at}
+use Rattle.facet_shape.specs.declared.shape.Shape.{Shape}
 use Rattle.facet_values.specs.Place.{start_of}
 use Rattle.facet_values.specs.Reading.{Reads}
 use Rattle.facet_session.specs.declared.session.Session.{Session}
@@ -14,23 +15,23 @@ use Rattle.facet_session.specs.Turn.{Turn, text_of}
 
 module _ {L : Type 0} (m : LeafModel L) where
   -- a cell has the name and the shape of an entry, which is sealed, and its block, of the shape's size, reads from 0 as the entry's value
-  pub record ShowsEntry (registry : Registry) (cell : Cell L) (entry : Entry L) : Type 0 where
+  pub record ShowsEntry (shapes : List Shape) (cell : Cell L) (entry : Entry L) : Type 0 where
     pub name : cell.name ≡ entry.name
     pub shape : cell.shape.0 ≡ entry.shape
-    pub sealed : entry.shape < registry.sealed
-    pub size : size_of cell.block ≡ size_at registry entry.shape
-    pub reads : Reads m registry (start_of entry.shape cell.block) entry.value
+    pub sealed : entry.shape < length shapes
+    pub size : size_of cell.block ≡ size_at shapes entry.shape
+    pub reads : Reads m shapes (start_of entry.shape cell.block) entry.value
 
   -- the cells do so, each at its turn
-  abbrev pub ShowEntries : Registry → List (Cell L) → List (Entry L) → Type 0
-  ShowEntries registry [] [] = Unit {0}
-  ShowEntries registry (cell ∷ cells) (entry ∷ entries) = ShowsEntry registry cell entry × ShowEntries registry cells entries
-  ShowEntries registry _ _ = ⊥
+  abbrev pub ShowEntries : List Shape → List (Cell L) → List (Entry L) → Type 0
+  ShowEntries shapes [] [] = Unit {0}
+  ShowEntries shapes (cell ∷ cells) (entry ∷ entries) = ShowsEntry shapes cell entry × ShowEntries shapes cells entries
+  ShowEntries shapes _ _ = ⊥
 
   -- a session has the registry of a state, and its cells are, in order, the state's entries
   pub record Shows (session : Session L) (state : State L) : Type 0 where
     pub registry : session.shapes ≡ state.registry
-    pub cells : ShowEntries state.registry session.cells.items state.entries
+    pub cells : ShowEntries state.registry.sealed session.cells.items state.entries
 
   -- some state is shown
   pub record IsReady (session : Session L) : Type 0 where

@@ -2,8 +2,8 @@
 use Rattle.std.specs.Prelude.{ℕ, List, [], ◌∷◌, ◌++◌}
 use Rattle.std.specs.List.{flat_map}
 use Rattle.facet_leaf.specs.LeafModel.{LeafModel}
-use Rattle.facet_shapes.specs.Prelude.{prelude}
-use Rattle.facet_shapes.specs.Registry.{Registry}
+use Rattle.facet_registry.specs.Prelude.{prelude}
+use Rattle.facet_registry.specs.Registry.{Registry}
 use Rattle.facet_values.specs.Value.{Value, leaves}
 
 -- a named value of a shape

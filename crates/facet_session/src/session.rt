@@ -3,7 +3,7 @@ ghost use Rattle.facet_session.specs.Session.{IsNew};
 
 use facet_base::{Many, ShapeId, Text};
 use facet_block::{Block, DropLog, Leaf};
-use facet_shapes::Shapes;
+use facet_registry::Shapes;
 use std::alloc::{AllocError, Global};
 
 /// A named value: a block of the shape's size, in which the value stands at offset 0.

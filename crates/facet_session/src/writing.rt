@@ -8,7 +8,7 @@ use crate::session::Cell;
 use facet_base::Text;
 use facet_block::{Leaf, PtrConst};
 use facet_make::leaf_at;
-use facet_shapes::Shapes;
+use facet_registry::Shapes;
 use std::alloc::{AllocError, Global};
 
 /// The text of an answer to a leaf that was made.
@@ -27,8 +27,8 @@ pub fn text_of_end<L: Leaf>(
     shapes: &Shapes<L>,
     cells: &[Cell<L>],
 ) -> Result<Text, AllocError>
-    requires { All (HoldsValue L.model shapes.now) cells.now }
-    ensures { IfOk result (λ text. text ≡ codes "end" ++ listed L.model (codes " dropped [") (stored_in_all shapes.now cells.now)) }
+    requires { All (HoldsValue L.model shapes.now.sealed) cells.now }
+    ensures { IfOk result (λ text. text ≡ codes "end" ++ listed L.model (codes " dropped [") (stored_in_all shapes.now.sealed cells.now)) }
 {
     let mut bytes = Vec::new(alloc);
     bytes.extend_from_slice(b"end")?;
@@ -49,9 +49,9 @@ fn push_stored<L: Leaf>(
     cell: &Cell<L>,
     some: bool,
 ) -> Result<bool, AllocError>
-    requires { HoldsValue L.model shapes.now cell.now }
+    requires { HoldsValue L.model shapes.now.sealed cell.now }
     ensures written { IfOk result (λ now. (xs : List L) → bytes.new.items ++ rest_listed L.model (codes " dropped [") now xs
-        ≡ bytes.old.items ++ rest_listed L.model (codes " dropped [") some (stored_in shapes.now cell.now ++ xs)) }
+        ≡ bytes.old.items ++ rest_listed L.model (codes " dropped [") some (stored_in shapes.now.sealed cell.now ++ xs)) }
     ensures utf8 { OnOk result (IsUtf8 bytes.old.items → IsUtf8 bytes.new.items) }
 {
     match leaf_at(shapes, cell.shape, PtrConst::new(&cell.block, 0)) {

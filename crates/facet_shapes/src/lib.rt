@@ -1,15 +1,11 @@
-//! The registry: descriptions of types under ids, of which the first ones are sealed.
+//! Shapes and their registry: all that `facet_registry` has, and the makers that draft shapes into it.
 #![tactic(auto)]
 
-mod capability;
-mod offsets;
-mod registry;
-mod scalar_shape;
-
-pub use capability::{
-    all, all_default, all_hash, all_ord, all_partial_eq, all_partial_ord, any, none,
+pub use facet_makers::{
+    array_of, box_of, boxed_slice_of, is_slice, list_of, map_of, option_of, result_of, set_of,
+    slice_of, tuple_of,
 };
-pub use facet_causes::{SealCause, SealError, SealFault};
-pub use facet_outline::ValueKind;
-pub use facet_shape::Shape;
-pub use registry::Shapes;
+pub use facet_registry::{
+    SealCause, SealError, SealFault, Shape, Shapes, ValueKind, all, all_default, all_hash, all_ord,
+    all_partial_eq, all_partial_ord, any, none,
+};

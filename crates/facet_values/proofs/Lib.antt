@@ -1,4 +1,6 @@
 pub mod LeafReading
 mod OneReading
+pub mod PartPlaces
 pub mod ReadablePlaces
 mod SameReading
+mod StayingReading

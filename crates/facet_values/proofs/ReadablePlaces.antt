@@ -9,7 +9,8 @@ use Rattle.facet_block.specs.declared.block.ItemKind.TheVariants as item
 use Rattle.facet_block.specs.Block.{item_at, item_kind, item_kind_at, leaf_of, size_of, with_item}
 use Rattle.facet_block.specs.Span.{span, IsBeside, IsCleared}
 use Rattle.facet_block.proofs.Ranges.{size_with_item, item_there, item_elsewhere}
-use Rattle.facet_shapes.specs.Registry.{Registry, kind_at, size_at}
+use Rattle.facet_registry.specs.Registry.{kind_at, size_at}
+use Rattle.facet_shape.specs.declared.shape.Shape.{Shape}
 use Rattle.facet_outline.specs.declared.value_kind.ValueKind.{ValueKind}
 use Rattle.facet_outline.specs.declared.value_kind.ValueKind.TheVariants as kind
 use Rattle.facet_values.specs.declared.form.Form.{Form}
@@ -44,15 +45,15 @@ module _ {L : Type 0} where
   leaf_of_seen_kind _ found = refl
 
   -- the leaf that a place has is the item there, where the kind is one of leaves
-  pub leaf_at_by_kind : (registry : Registry) (p : Place L) → leaf_at registry p ≡ leaf_by_kind (kind_at registry p.shape) (item_at p.block p.offset)
+  pub leaf_at_by_kind : (shapes : List Shape) (p : Place L) → leaf_at shapes p ≡ leaf_by_kind (kind_at shapes p.shape) (item_at p.block p.offset)
   unfolding seen
-  leaf_at_by_kind registry p = leaf_of_seen_kind (kind_at registry p.shape) (item_at p.block p.offset)
+  leaf_at_by_kind shapes p = leaf_of_seen_kind (kind_at shapes p.shape) (item_at p.block p.offset)
 
   not_node : (found : Option L) (form : Form) (parts : List (Place L)) → seen_leaf found ≡ a_node form parts → ⊥
   not_node None form parts e = cc
   not_node (Some y) form parts e = cc
 
-  no_parts : (of : ValueKind) (found : Option (Item L)) (form : Form) (parts : List (Place L)) → seen_kind of found ≡ a_node form parts → parts ≡ []
+  pub no_parts : (of : ValueKind) (found : Option (Item L)) (form : Form) (parts : List (Place L)) → seen_kind of found ≡ a_node form parts → parts ≡ []
   no_parts kind.Unit found form parts e = cc
   no_parts (kind.Leaf k) found form parts e = absurd (not_node (leaf_of found) form parts e)
   no_parts _ found form parts e = absurd (cc)
@@ -73,75 +74,75 @@ module _ {L : Type 0} where
   one_at_most None = omega arith
   one_at_most (Some x) = omega arith
 
-  module _ (m : LeafModel L) (registry : Registry) where
-    none_read : (parts : List (Place L)) (vs : Values L) → parts ≡ [] → ReadAll m registry parts vs → leaves_of_parts vs ≡ []
+  module _ (m : LeafModel L) (shapes : List Shape) where
+    none_read : (parts : List (Place L)) (vs : Values L) → parts ≡ [] → ReadAll m shapes parts vs → leaves_of_parts vs ≡ []
     none_read [] none e reads = refl
     none_read [] (more v vs) e reads = absurd reads
     none_read (p ∷ ps) vs e reads = absurd (cc)
 
     -- no kind that has values has parts yet: the leaves of what is read are the one that it is, or none
-    pub leaves_read : (p : Place L) (v : Value L) → Reads m registry p v → leaves v ≡ option_to_list (leaf_at registry p)
+    pub leaves_read : (p : Place L) (v : Value L) → Reads m shapes p v → leaves v ≡ option_to_list (leaf_at shapes p)
     unfolding seen
     leaves_read p (leaf x) reads = sym (ap (λ s. option_to_list (leaf_of_seen s)) reads.1)
     leaves_read p (node form vs) reads =
-        none_read reads.0 vs (no_parts (kind_at registry p.shape) (item_at p.block p.offset) form reads.0 reads.2) reads.3
+        none_read reads.0 vs (no_parts (kind_at shapes p.shape) (item_at p.block p.offset) form reads.0 reads.2) reads.3
         ∙ sym (ap (λ s. option_to_list (leaf_of_seen s)) reads.2)
 
-    pub one_leaf_at_most : (p : Place L) (v : Value L) → Reads m registry p v → length (leaves v) ≤ 1
-    one_leaf_at_most p v reads = omega (arith, one_at_most (leaf_at registry p), ap length (leaves_read p v reads))
+    pub one_leaf_at_most : (p : Place L) (v : Value L) → Reads m shapes p v → length (leaves v) ≤ 1
+    one_leaf_at_most p v reads = omega (arith, one_at_most (leaf_at shapes p), ap length (leaves_read p v reads))
 
-    module _ (p : Place L) (k : ScalarType) (of : kind_at registry p.shape ≡ kind.Leaf k) where
-      seen_there : seen registry p ≡ seen_leaf (leaf_of (item_at p.block p.offset))
+    module _ (p : Place L) (k : ScalarType) (of : kind_at shapes p.shape ≡ kind.Leaf k) where
+      seen_there : seen shapes p ≡ seen_leaf (leaf_of (item_at p.block p.offset))
       unfolding seen
       seen_there = ap (λ f. seen_kind f (item_at p.block p.offset)) of
 
-      leaf_lies : (v : Value L) → Reads m registry p v → item_kind_at p.block p.offset ≡ item.Leaf
+      leaf_lies : (v : Value L) → Reads m shapes p v → item_kind_at p.block p.offset ≡ item.Leaf
       leaf_lies (leaf x) reads = is_leaf (item_at p.block p.offset) x (sym (leaf_of_seen_leaf _) ∙ ap leaf_of_seen (sym seen_there ∙ reads.1))
       leaf_lies (node form vs) reads = absurd (not_node _ form reads.0 (sym seen_there ∙ reads.2))
 
       -- a place of leaves that reads as a value holds a leaf
-      pub leaf_held : IsReadable m registry p → item_kind_at p.block p.offset ≡ item.Leaf
+      pub leaf_held : IsReadable m shapes p → item_kind_at p.block p.offset ≡ item.Leaf
       leaf_held readable = leaf_lies readable.value readable.reads
 
       -- the leaves of what is read there are that leaf alone
-      pub leaf_read : (v : Value L) → Reads m registry p v → (x : L) × (item_at p.block p.offset ≡ Some (Leaf x)) × (leaves v ≡ x ∷ [])
+      pub leaf_read : (v : Value L) → Reads m shapes p v → (x : L) × (item_at p.block p.offset ≡ Some (Leaf x)) × (leaves v ≡ x ∷ [])
       leaf_read v reads =
           let (x, here) = the_leaf (item_at p.block p.offset) (leaf_lies v reads) in (
             x,
             here,
             leaves_read p v reads
-                ∙ ap option_to_list (leaf_at_by_kind registry p ∙ ap (λ f. leaf_by_kind f (item_at p.block p.offset)) of ∙ ap leaf_of here),
+                ∙ ap option_to_list (leaf_at_by_kind shapes p ∙ ap (λ f. leaf_by_kind f (item_at p.block p.offset)) of ∙ ap leaf_of here),
           )
 
     -- what is read where the kind isn't one of leaves has none
-    pub no_leaves : (p : Place L) (v : Value L) → ((k : ScalarType) → kind_at registry p.shape ≡ kind.Leaf k → ⊥) → Reads m registry p v → leaves v ≡ []
+    pub no_leaves : (p : Place L) (v : Value L) → ((k : ScalarType) → kind_at shapes p.shape ≡ kind.Leaf k → ⊥) → Reads m shapes p v → leaves v ≡ []
     no_leaves p v other reads =
         leaves_read p v reads
-        ∙ ap option_to_list (leaf_at_by_kind registry p ∙ no_leaf_by_kind (kind_at registry p.shape) (item_at p.block p.offset) other)
+        ∙ ap option_to_list (leaf_at_by_kind shapes p ∙ no_leaf_by_kind (kind_at shapes p.shape) (item_at p.block p.offset) other)
 
-    is_whole : (p : Place L) (v : Value L) → Reads m registry p v → IsWhole m registry p
+    is_whole : (p : Place L) (v : Value L) → Reads m shapes p v → IsWhole m shapes p
     is_whole p (leaf x) reads = reads.0
     is_whole p (node form vs) reads = reads.1
 
-    module _ (p : Place L) (v : Value L) (reads : Reads m registry p v) where
-      beside_first : (j : ℕ) (k : ScalarType) → kind_at registry p.shape ≡ kind.Leaf k → All (IsBeside (suc j)) (spans_of_kind (kind_at registry p.shape))
+    module _ (p : Place L) (v : Value L) (reads : Reads m shapes p v) where
+      beside_first : (j : ℕ) (k : ScalarType) → kind_at shapes p.shape ≡ kind.Leaf k → All (IsBeside (suc j)) (spans_of_kind (kind_at shapes p.shape))
       beside_first j k of =
           let behind : 0 + 1 ≤ suc j = omega arith in
           subst (λ f. All (IsBeside (suc j)) (spans_of_kind f)) (sym of) (All-cons (IsBeside (suc j)) own_span [] (inr behind) (All-nil (IsBeside (suc j))))
 
-      emptied : (k : ScalarType) → kind_at registry p.shape ≡ kind.Leaf k → p.offset < size_of p.block → (j : ℕ) → j < size_at registry p.shape
+      emptied : (k : ScalarType) → kind_at shapes p.shape ≡ kind.Leaf k → p.offset < size_of p.block → (j : ℕ) → j < size_at shapes p.shape
           → item_at (with_item p.block p.offset None) (p.offset + j) ≡ None
       emptied k of inside zero below = rw add-zero (item_there p.block p.offset None inside)
       emptied k of inside (suc j) below =
           item_elsewhere p.block p.offset None (p.offset + suc j) (omega arith) ∙ (is_whole p v reads).alone (suc j) below (beside_first j k of)
 
-      not_first : (i : ℕ) → 0 < size_at registry p.shape → IsBeside i (span p.offset (size_at registry p.shape)) → i ≢ p.offset
+      not_first : (i : ℕ) → 0 < size_at shapes p.shape → IsBeside i (span p.offset (size_at shapes p.shape)) → i ≢ p.offset
       not_first i some (inl before) = omega arith
       not_first i some (inr behind) = omega arith
 
       -- a place of leaves is empty without its leaf, and beside it nothing has changed
-      pub cleared_of_leaf : (k : ScalarType) → kind_at registry p.shape ≡ kind.Leaf k → 0 < size_at registry p.shape
-          → IsCleared p.block (with_item p.block p.offset None) (span p.offset (size_at registry p.shape))
+      pub cleared_of_leaf : (k : ScalarType) → kind_at shapes p.shape ≡ kind.Leaf k → 0 < size_at shapes p.shape
+          → IsCleared p.block (with_item p.block p.offset None) (span p.offset (size_at shapes p.shape))
       cleared_of_leaf k of some =
           let inside : p.offset < size_of p.block = omega (arith, some, (is_whole p v reads).inside) in
           record {
@@ -153,7 +154,7 @@ module _ {L : Type 0} where
           }
 
       -- a place whose values have no item is empty as it is
-      pub cleared_of_nothing : spans_of_kind (kind_at registry p.shape) ≡ [] → IsCleared p.block p.block (span p.offset (size_at registry p.shape))
+      pub cleared_of_nothing : spans_of_kind (kind_at shapes p.shape) ≡ [] → IsCleared p.block p.block (span p.offset (size_at shapes p.shape))
       cleared_of_nothing no_span = record {
         size = refl;
         empty = λ i within.

@@ -1,14 +1,15 @@
 -- What a place reads as depends on the items of its range alone.
-use Rattle.std.proofs.Common.{◌≡◌, ◌<◌, Option, None, refl, sym, ap, ◌∙◌, subst, add-zero}
+use Rattle.std.proofs.Common.{◌≡◌, ◌<◌, List, length, Option, None, refl, sym, ap, ◌∙◌, subst, add-zero}
 use Rattle.facet_base.specs.declared.scalar_type.ScalarType.{ScalarType}
 use Rattle.facet_leaf.specs.LeafModel.{LeafModel}
 use Rattle.facet_block.specs.declared.block.Item.{Item}
 use Rattle.facet_block.specs.Block.{item_at, leaf_of}
-use Rattle.facet_shapes.proofs.SealedLeaves.{sealed_leaves}
-use Rattle.facet_shapes.specs.Registry.{Registry, kind_at}
+use Rattle.facet_registry.proofs.SealedLeaves.{sealed_leaves}
+use Rattle.facet_registry.specs.Registry.{kind_at}
+use Rattle.facet_shape.specs.declared.shape.Shape.{Shape}
 use Rattle.facet_outline.specs.declared.value_kind.ValueKind.{ValueKind}
 use Rattle.facet_outline.specs.declared.value_kind.ValueKind.TheVariants as kind
-use Rattle.facet_shapes.specs.WellFormed.{IsRegistry}
+use Rattle.facet_causes.specs.Causes.{IsWellFormed}
 use Rattle.facet_values.specs.Place.{Place}
 use Rattle.facet_values.specs.Seen.{seen_kind, seen}
 use Rattle.facet_values.specs.Reading.{IsOfKind, IsWhole, Reads, HoldsSame}
@@ -31,29 +32,29 @@ own_item_same : {L : Type 0} (of : ValueKind) (found other : Option (Item L)) �
 own_item_same (kind.Leaf k) found other same = same k refl
 own_item_same _ found other same = refl
 
-module _ {L : Type 0} (m : LeafModel L) (registry : Registry) (is : IsRegistry m registry) where
+module _ {L : Type 0} (m : LeafModel L) (shapes : List Shape) (well : IsWellFormed m shapes) where
   -- the first place, at the second's offset in the second's block
   abbrev at : Place L → Place L → Place L
   at p q = record { shape = p.shape; block = q.block; offset = q.offset }
 
-  own_items : (p q : Place L) → p.shape < registry.sealed → HoldsSame registry p q
-      → own (kind_at registry p.shape) (item_at p.block p.offset) ≡ own (kind_at registry p.shape) (item_at q.block q.offset)
+  own_items : (p q : Place L) → p.shape < length shapes → HoldsSame shapes p q
+      → own (kind_at shapes p.shape) (item_at p.block p.offset) ≡ own (kind_at shapes p.shape) (item_at q.block q.offset)
   own_items p q sealed same =
-      own_item_same (kind_at registry p.shape) (item_at p.block p.offset) (item_at q.block q.offset)
+      own_item_same (kind_at shapes p.shape) (item_at p.block p.offset) (item_at q.block q.offset)
       (λ k leaves.
-      let e = same.items 0 ((sealed_leaves m registry is p.shape sealed).room k leaves) in
+      let e = same.items 0 ((sealed_leaves m shapes well p.shape sealed).room k leaves) in
       let first : item_at q.block q.offset ≡ item_at p.block p.offset = rw (add-zero, add-zero) at e in
       sym first)
 
-  seen_same : (p q : Place L) → p.shape < registry.sealed → HoldsSame registry p q → seen registry p ≡ seen registry (at p q)
+  seen_same : (p q : Place L) → p.shape < length shapes → HoldsSame shapes p q → seen shapes p ≡ seen shapes (at p q)
   unfolding seen
   seen_same p q sealed same =
-      let of = kind_at registry p.shape in
+      let of = kind_at shapes p.shape in
       seen_by_own_item of (item_at p.block p.offset) ∙ ap (seen_kind of) (own_items p q sealed same) ∙ sym (seen_by_own_item of (item_at q.block q.offset))
 
-  whole_same : (p q : Place L) → p.shape < registry.sealed → HoldsSame registry p q → IsWhole m registry p → IsWhole m registry (at p q)
+  whole_same : (p q : Place L) → p.shape < length shapes → HoldsSame shapes p q → IsWhole m shapes p → IsWhole m shapes (at p q)
   whole_same p q sealed same whole =
-      let of = kind_at registry p.shape in
+      let of = kind_at shapes p.shape in
       let kinds = kind_by_own_item m of (item_at p.block p.offset) ∙ ap (λ found. IsOfKind m of (leaf_of found)) (own_items p q sealed same) ∙ sym (kind_by_own_item m of (item_at q.block q.offset)) in
       record {
         inside = same.inside;
@@ -61,10 +62,10 @@ module _ {L : Type 0} (m : LeafModel L) (registry : Registry) (is : IsRegistry m
         item = subst (λ (T : Type 0). T) kinds whole.item;
       }
 
-  read_at_same : (p q : Place L) (v : Value L) → HoldsSame registry p q → Reads m registry (at p q) v → Reads m registry q v
-  read_at_same p q v same reads = subst (λ s. Reads m registry (record { shape = s; block = q.block; offset = q.offset }) v) same.shape reads
+  read_at_same : (p q : Place L) (v : Value L) → HoldsSame shapes p q → Reads m shapes (at p q) v → Reads m shapes q v
+  read_at_same p q v same reads = subst (λ s. Reads m shapes (record { shape = s; block = q.block; offset = q.offset }) v) same.shape reads
 
-  pub reads_same : (p q : Place L) (v : Value L) → p.shape < registry.sealed → HoldsSame registry p q → Reads m registry p v → Reads m registry q v
+  pub reads_same : (p q : Place L) (v : Value L) → p.shape < length shapes → HoldsSame shapes p q → Reads m shapes p v → Reads m shapes q v
   reads_same p q (leaf x) sealed same reads =
       read_at_same p q (leaf x) same (whole_same p q sealed same reads.0, sym (seen_same p q sealed same) ∙ reads.1)
   reads_same p q (node form vs) sealed same reads =

@@ -1,3 +1,4 @@
+pub mod PartPlace
 pub mod Place
 pub mod Reading
 pub mod Seen

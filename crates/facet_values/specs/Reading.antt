@@ -3,7 +3,8 @@ use Rattle.std.specs.Prelude.{◌≡◌, ℕ, ◌+◌, ◌<◌, ◌≤◌, List,
 use Rattle.facet_leaf.specs.LeafModel.{LeafModel}
 use Rattle.facet_block.specs.Block.{item_at, leaf_of, size_of}
 use Rattle.facet_block.specs.Span.{Span, IsBeside}
-use Rattle.facet_shapes.specs.Registry.{Registry, kind_at, size_at}
+use Rattle.facet_registry.specs.Registry.{kind_at, size_at}
+use Rattle.facet_shape.specs.declared.shape.Shape.{Shape}
 use Rattle.facet_outline.specs.declared.value_kind.ValueKind.{ValueKind}
 use Rattle.facet_outline.specs.declared.value_kind.ValueKind.TheVariants as kind
 use Rattle.facet_values.specs.Place.{Place, item_behind}
@@ -29,17 +30,17 @@ module _ {L : Type 0} (m : LeafModel L) where
   IsOfKind (kind.Leaf k) (Some x) = m.kind x ≡ k
   IsOfKind _ _ = Unit {0}
 
-  module _ (registry : Registry) where
+  module _ (shapes : List Shape) where
     -- the range lies in the block, and holds nothing but the value's own item and its parts
     pub record IsWhole (p : Place L) : Type 0 where
-      pub inside : p.offset + size_at registry p.shape ≤ size_of p.block
-      pub alone : IsAlone (size_at registry p.shape) p (spans_of_kind (kind_at registry p.shape))
-      pub item : IsOfKind (kind_at registry p.shape) (leaf_of (item_at p.block p.offset))
+      pub inside : p.offset + size_at shapes p.shape ≤ size_of p.block
+      pub alone : IsAlone (size_at shapes p.shape) p (spans_of_kind (kind_at shapes p.shape))
+      pub item : IsOfKind (kind_at shapes p.shape) (leaf_of (item_at p.block p.offset))
 
     abbrev mutual
       pub Reads : Place L → Value L → Type 0
-      Reads p (leaf x) = IsWhole p × (seen registry p ≡ a_leaf x)
-      Reads p (node form vs) = (parts : List (Place L)) × IsWhole p × (seen registry p ≡ a_node form parts) × ReadAll parts vs
+      Reads p (leaf x) = IsWhole p × (seen shapes p ≡ a_leaf x)
+      Reads p (node form vs) = (parts : List (Place L)) × IsWhole p × (seen shapes p ≡ a_node form parts) × ReadAll parts vs
 
       -- each place reads as the value that stands at its turn
       pub ReadAll : List (Place L) → Values L → Type 0
@@ -53,7 +54,7 @@ module _ {L : Type 0} (m : LeafModel L) where
       pub reads : Reads p value
 
 -- the second place has the shape of the first, holds the same in its range, and its range lies in its block
-pub record HoldsSame {L : Type 0} (registry : Registry) (p q : Place L) : Type 0 where
+pub record HoldsSame {L : Type 0} (shapes : List Shape) (p q : Place L) : Type 0 where
   pub shape : p.shape ≡ q.shape
-  pub items : (i : ℕ) → i < size_at registry p.shape → item_behind q i ≡ item_behind p i
-  pub inside : q.offset + size_at registry p.shape ≤ size_of q.block
+  pub items : (i : ℕ) → i < size_at shapes p.shape → item_behind q i ≡ item_behind p i
+  pub inside : q.offset + size_at shapes p.shape ≤ size_of q.block

@@ -2,7 +2,8 @@
 use Rattle.std.specs.Prelude.{List, [], Option, None, Some}
 use Rattle.facet_block.specs.declared.block.Item.{Item}
 use Rattle.facet_block.specs.Block.{item_at, leaf_of}
-use Rattle.facet_shapes.specs.Registry.{Registry, kind_at}
+use Rattle.facet_registry.specs.Registry.{kind_at}
+use Rattle.facet_shape.specs.declared.shape.Shape.{Shape}
 use Rattle.facet_outline.specs.declared.value_kind.ValueKind.{ValueKind}
 use Rattle.facet_outline.specs.declared.value_kind.ValueKind.TheVariants as kind
 use Rattle.facet_values.specs.declared.form.Form.{Form}
@@ -25,8 +26,8 @@ seen_kind kind.Unit found = a_node form.Unit []
 seen_kind (kind.Leaf k) found = seen_leaf (leaf_of found)
 seen_kind _ found = no_value
 
-unfoldable pub seen : {L : Type 0} → Registry → Place L → Seen L
-seen registry p = seen_kind (kind_at registry p.shape) (item_at p.block p.offset)
+unfoldable pub seen : {L : Type 0} → List Shape → Place L → Seen L
+seen shapes p = seen_kind (kind_at shapes p.shape) (item_at p.block p.offset)
 
 -- the leaf that the value begun so is, where it is one
 abbrev pub leaf_of_seen : {L : Type 0} → Seen L → Option L
@@ -34,5 +35,5 @@ leaf_of_seen (a_leaf x) = Some x
 leaf_of_seen _ = None
 
 -- the leaf that the value at a place is, where it is one
-abbrev pub leaf_at : {L : Type 0} → Registry → Place L → Option L
-leaf_at registry p = leaf_of_seen (seen registry p)
+abbrev pub leaf_at : {L : Type 0} → List Shape → Place L → Option L
+leaf_at shapes p = leaf_of_seen (seen shapes p)

@@ -4,5 +4,7 @@
 mod form;
 /// The laws of reading.
 pub mod laws;
+/// The laws of the parts of values.
+pub mod part_laws;
 
 pub use form::Form;

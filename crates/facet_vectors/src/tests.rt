@@ -283,7 +283,7 @@ fn calls_that_take_memory_answer(rt: HostRuntime) -> Result<(), Fail> {
             assert_eq!(rt; shape.0, 6);
             assert_eq!(rt; text.as_str(), "x y");
         }
-        None => assert!(rt; false, "it is a command"),
+        _ => assert!(rt; false, "it is this command"),
     }
     Ok(())
 }

@@ -2,10 +2,10 @@ use super::push;
 use facet_base::{Characteristic, ShapeId, Text};
 use facet_caps::{TypeOpsDirect, VTableDirect};
 use facet_leaf::Scalar;
-use facet_shape::ShapeBuilder;
-use facet_shapes::{
+use facet_registry::{
     Shapes, all, all_default, all_hash, all_ord, all_partial_eq, all_partial_ord, any, none,
 };
+use facet_shape::ShapeBuilder;
 use std::alloc::{AllocError, Global};
 use std::test::Fail;
 

@@ -1,8 +1,8 @@
 use super::push;
 use facet_base::{ShapeId, Text};
 use facet_leaf::Scalar;
+use facet_registry::Shapes;
 use facet_shape::Shape;
-use facet_shapes::Shapes;
 use std::alloc::{AllocError, Global};
 use std::cmp::Ordering;
 use std::hash::{DefaultHasher, Hash, Hasher};

@@ -7,8 +7,8 @@ use facet_caps::{PointerVTable, SliceVTable};
 use facet_def::{Def, PointerDef, SliceDef};
 use facet_desc::{StructKind, Ty, UserType};
 use facet_leaf::Scalar;
+use facet_registry::{SealCause, SealFault, Shapes, ValueKind};
 use facet_shape::{Shape, ShapeBuilder};
-use facet_shapes::{SealCause, SealFault, Shapes, ValueKind};
 use std::alloc::{AllocError, Global};
 use std::test::Fail;
 

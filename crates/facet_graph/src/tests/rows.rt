@@ -1,4 +1,4 @@
-ghost use Rattle.std.specs.Prelude.{◌≡◌, ◌<◌, length};
+ghost use Rattle.std.specs.Prelude.{◌<◌};
 
 use crate::labels::{least_behind, rising_labels};
 use crate::tests::listed::{Arrow, Listed, edges_lead_to_nodes};
@@ -8,6 +8,13 @@ use crate::{
 };
 use std::alloc::{AllocError, Global};
 use std::test::Fail;
+
+fn arrow(from: usize, node: usize, weight: usize) -> Arrow {
+    Arrow {
+        from,
+        edge: WeightedEdge { node, weight },
+    }
+}
 
 // What is asked of a graph.
 #[derive(Drop)]
@@ -21,16 +28,14 @@ struct Findings {
 }
 
 // Whether the labels leave it open that a node is on a cycle, so that it is searched from.
-fn searched(alloc: Global, graph: &Listed<'_>, heights: &[u8]) -> Result<Vec<bool>, AllocError>
-    requires { length heights.now ≡ graph.now.count }
-{
+fn searched(alloc: Global, graph: &Listed<'_>) -> Result<Vec<bool>, AllocError> {
     edges_lead_to_nodes(graph);
-    let labels = rising_labels(alloc, graph, 0, heights)?;
+    let labels = rising_labels(alloc, graph)?;
     let mut buffer = Vec::new(alloc);
     let mut searched = Vec::new(alloc);
     for node in 0..graph.count {
-        let least = least_behind(graph, node, heights, &labels, &mut buffer)?;
-        searched.push(heights[node] == 0 && least <= labels[node])?;
+        let least = least_behind(graph, node, &labels, &mut buffer)?;
+        searched.push(least <= labels[node])?;
     }
     Ok(searched)
 }
@@ -44,7 +49,7 @@ fn findings_of(alloc: Global, graph: &Listed<'_>) -> Result<Findings, AllocError
     let on_cycle = first_on_cycle(alloc, graph, 0, &heights)?;
     let too_high = first_too_high(graph, 0, &heights);
     let too_costly = first_too_costly(graph, 0, &heights, &costs);
-    let searched = searched(alloc, graph, &heights)?;
+    let searched = searched(alloc, graph)?;
     Ok(Findings {
         heights,
         costs,
@@ -146,13 +151,7 @@ fn small_graphs_have_their_heights_costs_and_cycles(rt: HostRuntime) -> Result<(
     for row in rows() {
         let mut arrows = Vec::new(alloc);
         for (from, node, weight) in row.edges {
-            arrows.push(Arrow {
-                from: *from,
-                edge: WeightedEdge {
-                    node: *node,
-                    weight: *weight,
-                },
-            })?;
+            arrows.push(arrow(*from, *node, *weight))?;
         }
         let graph = Listed {
             count: 4,
@@ -173,13 +172,7 @@ fn small_graphs_have_their_heights_costs_and_cycles(rt: HostRuntime) -> Result<(
 fn chain(alloc: Global, count: usize) -> Result<Vec<Arrow>, AllocError> {
     let mut arrows = Vec::new(alloc);
     for from in 0..count {
-        arrows.push(Arrow {
-            from,
-            edge: WeightedEdge {
-                node: from.saturating_add(1),
-                weight: 1,
-            },
-        })?;
+        arrows.push(arrow(from, from.saturating_add(1), 1))?;
     }
     Ok(arrows)
 }
@@ -203,10 +196,12 @@ fn a_hundred_nodes_one_behind_another_are_not_too_high(rt: HostRuntime) -> Resul
     Ok(())
 }
 
-// Whether a bad node is reached from a node, and then from another one, and the marks behind both searches.
+// Whether a bad node is reached from a node, and then from another one, and the marks behind both searches. Nodes before
+// `first` are searched from one by one.
 fn two_searches(
     alloc: Global,
     graph: &Listed<'_>,
+    first: usize,
     one: usize,
     other: usize,
 ) -> Result<(bool, bool, Vec<bool>), AllocError>
@@ -215,9 +210,9 @@ fn two_searches(
 {
     edges_lead_to_nodes(graph);
     let mut marks = vec![in alloc; false; graph.count]?;
-    let first = reaches_bad(alloc, graph, vec![in alloc; one]?, &mut marks)?;
-    let second = reaches_bad(alloc, graph, vec![in alloc; other]?, &mut marks)?;
-    Ok((first, second, marks))
+    let of_one = reaches_bad(alloc, graph, first, vec![in alloc; one]?, &mut marks)?;
+    let of_other = reaches_bad(alloc, graph, first, vec![in alloc; other]?, &mut marks)?;
+    Ok((of_one, of_other, marks))
 }
 
 #[test]
@@ -229,12 +224,33 @@ fn nodes_are_marked_where_no_bad_node_is_reached(rt: HostRuntime) -> Result<(), 
         arrows: &arrows,
         bad: 1,
     };
-    let (clean, bad, marks) = two_searches(alloc, &graph, 2, 0)?;
+    let (clean, bad, marks) = two_searches(alloc, &graph, 0, 2, 0)?;
     assert_eq!(rt; (clean, bad), (false, true));
     assert_eq!(rt; &marks[..], &[false, false, true, true][..]);
     graph.bad = 4;
-    let (clean, again, marks) = two_searches(alloc, &graph, 3, 1)?;
+    let (clean, again, marks) = two_searches(alloc, &graph, 0, 3, 1)?;
     assert_eq!(rt; (clean, again), (false, false));
     assert_eq!(rt; &marks[..], &[false, true, true, true][..]);
+    Ok(())
+}
+
+#[test]
+fn nodes_before_the_first_stay_marked_where_a_bad_node_is_found(
+    rt: HostRuntime,
+) -> Result<(), Fail> {
+    let alloc = rt.alloc();
+    let graph = Listed {
+        count: 5,
+        arrows: &[
+            arrow(2, 0, 1),
+            arrow(2, 3, 1),
+            arrow(3, 4, 1),
+            arrow(0, 1, 1),
+        ],
+        bad: 4,
+    };
+    let (bad, again, marks) = two_searches(alloc, &graph, 2, 2, 3)?;
+    assert_eq!(rt; (bad, again), (true, true));
+    assert_eq!(rt; &marks[..], &[true, true, false, false, false][..]);
     Ok(())
 }

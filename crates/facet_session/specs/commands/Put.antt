@@ -2,7 +2,8 @@
 use Rattle.std.specs.Prelude.{ℕ, Bool, true, false, not, List, [], ◌∷◌, Option, None, Some, codes}
 use Rattle.facet_base.specs.declared.characteristic.Characteristic.TheVariants as characteristic
 use Rattle.facet_leaf.specs.LeafModel.{LeafModel}
-use Rattle.facet_shapes.specs.Registry.{Registry, kind_at, offers}
+use Rattle.facet_registry.specs.Registry.{kind_at, offers}
+use Rattle.facet_shape.specs.declared.shape.Shape.{Shape}
 use Rattle.facet_outline.specs.declared.value_kind.ValueKind.{ValueKind}
 use Rattle.facet_outline.specs.declared.value_kind.ValueKind.TheVariants as kind
 use Rattle.facet_values.specs.Value.{leaf}
@@ -19,12 +20,12 @@ is_scalar (kind.Leaf k) = true
 is_scalar _ = false
 
 -- the refusals that come before the text is parsed, in their order, each with its condition
-abbrev pub conditions : Registry → Bool → ℕ → List (Bool × Refusal)
-conditions registry taken s =
-    (is_unsealed registry s, NoSuchShape)
+abbrev pub conditions : List Shape → Bool → ℕ → List (Bool × Refusal)
+conditions shapes taken s =
+    (is_unsealed shapes s, NoSuchShape)
     ∷ (taken, Taken)
-    ∷ (not (is_scalar (kind_at registry s)), WrongShape)
-    ∷ (not (offers registry s characteristic.FromStr), Unsupported)
+    ∷ (not (is_scalar (kind_at shapes s)), WrongShape)
+    ∷ (not (offers shapes s characteristic.FromStr), Unsupported)
     ∷ []
 
 -- the leaf of a kind that a text is, if it is one; what is no leaf is never parsed
@@ -41,4 +42,4 @@ add_parsed state name s (Some x) =
 -- the command's turn
 abbrev pub put : {L : Type 0} → LeafModel L → State L → List ℕ → ℕ → List ℕ → Turn L
 put m state name s text =
-    refused_or state (first_refusal (conditions state.registry (is_taken state name) s)) (add_parsed state name s (parsed_as m (kind_at state.registry s) text))
+    refused_or state (first_refusal (conditions state.registry.sealed (is_taken state name) s)) (add_parsed state name s (parsed_as m (kind_at state.registry.sealed s) text))

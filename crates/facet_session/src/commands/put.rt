@@ -1,7 +1,7 @@
-ghost use Rattle.std.specs.Prelude.{◌≡◌, ◌<◌, [], Some, IfOk, OnOk, OnErr, IsTrue, bytes_eq};
+ghost use Rattle.std.specs.Prelude.{◌≡◌, ◌<◌, [], length, Some, IfOk, OnOk, OnErr, IsTrue, bytes_eq};
 ghost use Rattle.std.specs.List.{list_any};
-ghost use Rattle.facet_shapes.specs.Registry.{kind_at, size_at, offers};
-ghost use Rattle.facet_shapes.specs.WellFormed.{IsRegistry};
+ghost use Rattle.facet_registry.specs.Registry.{kind_at, size_at, offers};
+ghost use Rattle.facet_registry.specs.WellFormed.{IsRegistry};
 ghost use Rattle.facet_block.specs.Block.{empty_block, with_item};
 ghost use Rattle.facet_block.specs.declared.block.Item.{Leaf};
 ghost use Rattle.facet_session.specs.Refusal.{first_refusal};
@@ -15,7 +15,7 @@ use crate::session::{Answer, Cell, Session};
 use crate::writing::text_of_made;
 use facet_base::{Characteristic, ShapeId, Text};
 use facet_block::{Block, Leaf, PtrUninit};
-use facet_shapes::{Shapes, ValueKind};
+use facet_registry::{Shapes, ValueKind};
 use std::alloc::{AllocError, Global};
 
 /// Carries out `put NAME #SHAPE TEXT`: parses the text as a scalar of the shape, and adds it under the name.
@@ -44,7 +44,7 @@ pub fn put<L: Leaf>(
 
 // Why the command is refused before its text is parsed, if it is.
 fn refusal_of<L: Leaf>(session: &Session<L>, name: &Text, shape: ShapeId) -> Option<Refusal>
-    ensures first { result ≡ first_refusal (conditions session.now.shapes
+    ensures first { result ≡ first_refusal (conditions session.now.shapes.sealed
         (list_any (λ cell. bytes_eq cell.name name.now) session.now.cells.items) shape.0) }
     ensures registry { IsRegistry L.model session.now.shapes }
 {
@@ -81,9 +81,9 @@ fn parse<L: Leaf>(
     text: &str,
 ) -> Result<Option<L>, AllocError>
     requires registry { IsRegistry L.model shapes.now }
-    requires sealed { shape.0 < shapes.now.sealed }
-    requires parses { IsTrue (offers shapes.now shape.0 Characteristic.FromStr) }
-    ensures { IfOk result (λ parsed. parsed ≡ parsed_as L.model (kind_at shapes.now shape.0) text.now) }
+    requires sealed { shape.0 < length shapes.now.sealed }
+    requires parses { IsTrue (offers shapes.now.sealed shape.0 Characteristic.FromStr) }
+    ensures { IfOk result (λ parsed. parsed ≡ parsed_as L.model (kind_at shapes.now.sealed shape.0) text.now) }
 {
     match shapes.kind_of(shape) {
         ValueKind::Leaf(kind) => Ok(L::parse(alloc, kind, text)?.ok()),
@@ -100,9 +100,9 @@ fn add_leaf<L: Leaf>(
     leaf: L,
 ) -> Result<Answer, AllocError>
     requires empty { session.old.log.leaves ≡ [] }
-    requires sealed { shape.0 < session.old.shapes.sealed }
-    requires room { 0 < size_at session.old.shapes shape.0 }
-    requires kind { kind_at session.old.shapes shape.0 ≡ ValueKind.Leaf (L.model.kind leaf) }
+    requires sealed { shape.0 < length session.old.shapes.sealed }
+    requires room { 0 < size_at session.old.shapes.sealed shape.0 }
+    requires kind { kind_at session.old.shapes.sealed shape.0 ≡ ValueKind.Leaf (L.model.kind leaf) }
     ensures turn { IfOk result (λ answer. (state : State L) → Shows L.model session.old state
         → CarriesOut L.model session.new answer (add_parsed state name shape.0 (Some leaf))) }
     ensures kept { OnOk result (KeepsCells session.old session.new) }
@@ -126,8 +126,9 @@ fn block_of<L: Leaf>(
     shape: ShapeId,
     leaf: L,
 ) -> Result<Block<L>, AllocError>
-    requires { 0 < size_at shapes.now shape.0 }
-    ensures { IfOk result (λ block. block ≡ with_item (empty_block (size_at shapes.now shape.0)) 0 (Some (Leaf leaf))) }
+    requires sealed { shape.0 < length shapes.now.sealed }
+    requires room { 0 < size_at shapes.now.sealed shape.0 }
+    ensures { IfOk result (λ block. block ≡ with_item (empty_block (size_at shapes.now.sealed shape.0)) 0 (Some (Leaf leaf))) }
 {
     let mut block = Block::new(alloc, shapes.size_of(shape))?;
     PtrUninit::new(&mut block, 0).put(leaf);

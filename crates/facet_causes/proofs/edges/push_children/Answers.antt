@@ -1,9 +1,9 @@
 use Rattle.std.proofs.Common.{◌++◌, ap, sym, ◌∙◌}
 use Rattle.std.proofs.lemmas.List.{append-nil}
 use Rattle.std.proofs.lemmas.Result.{IfOk-equal}
-use Rattle.facet_outline.specs.Name.{name_children}
 use Rattle.facet_causes.proofs.Readings.{found, children_found, children_missing, missing}
 use Rattle.facet_causes.proofs.edges.push_children.Goals as goal
+use Rattle.facet_type_name.specs.Name.{name_children}
 
 pub returns-in-Some : goal.returns-in-Some
 returns-in-Some c =

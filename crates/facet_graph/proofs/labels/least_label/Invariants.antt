@@ -1,5 +1,5 @@
-use Rattle.std.proofs.Common.{◌≡◌, ℕ, ◌<◌, ◌≤◌, get_or}
+use Rattle.std.proofs.Common.{ℕ, ◌<◌, ◌≤◌, get_or}
 use Rattle.facet_graph.proofs.labels.least_label.Given as goal
 
 abbrev pub invariant-loop-node : goal.invariant-loop-node
-invariant-loop-node l = (i : ℕ) → i < l.node-index → get_or l.heights (get_or l.nodes i 0) 0 ≡ 0 → l.least ≤ get_or l.labels (get_or l.nodes i 0) 0
+invariant-loop-node l = (i : ℕ) → i < l.node-index → l.least ≤ get_or l.labels (get_or l.nodes i 0) 0

@@ -1,4 +1,5 @@
-use Rattle.std.proofs.Common.{◌≡◌, ◌+◌, ◌<◌, All, length, vec_len}
+use Rattle.std.proofs.Common.{◌≡◌, ◌+◌, ◌<◌, All, Any, length, vec_len}
+use Rattle.facet_graph.specs.Reach.{Reaches}
 use Rattle.facet_graph.specs.Trail.{IsTrail}
 use Rattle.facet_graph.proofs.Frontier.{IsFrontier}
 use Rattle.facet_graph.proofs.Work.{unmarked_edges}
@@ -10,6 +11,7 @@ invariant-loop-node g l = record {
   within : All (λ s. s < g.G.Graph.count l.graph) l.left.items;
   frontier : IsFrontier (g.G.Graph.edges l.graph) (g.G.Search.bad l.graph) l.fn.starts.items l.fn.marks.items l.marks.items l.left.items;
   trail : IsTrail l.fn.marks.items l.marks.items l.trail.items;
+  trail_reached : All (λ t. Any (λ s. Reaches (g.G.Graph.edges l.graph) s t) l.fn.starts.items) l.trail.items;
   trail_within : All (λ s. s < g.G.Graph.count l.graph) l.trail.items;
 }
 

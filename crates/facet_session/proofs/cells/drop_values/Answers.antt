@@ -9,7 +9,7 @@ pub drop_cell-requires-clause-held : goal.drop_cell-requires-clause-held
 drop_cell-requires-clause-held g c =
     let cells = c.args.cells.now.items in
     let here = same_at c.loop-i.cells.items cells c.loop-i.i c.in-Some.cell.now c.loop-i.invariant.rest c.in-Some.ensures.value in
-    All_at (HoldsValue g.L.Leaf.model c.args.shapes.now) cells c.loop-i.i c.in-Some.cell.now c.requires.held here
+    All_at (HoldsValue g.L.Leaf.model c.args.shapes.now.sealed) cells c.loop-i.i c.in-Some.cell.now c.requires.held here
 
 pub loop-i-preserved : goal.loop-i-preserved
 loop-i-preserved g c =
@@ -22,7 +22,7 @@ loop-i-preserved g c =
           record {
             rest = rw w.cells-is (same_behind c.loop-i.cells.items cells i w.drop_cell.new.cell inv.rest);
             count = rw w.cells-is (length-set c.loop-i.cells.items i w.drop_cell.new.cell ∙ inv.count);
-            leaves = rw w.log-is (next_stored c.args.shapes.now cells i w.in-Some.cell.now _ _ _ here inv.leaves w.drop_cell.ensures.leaves);
+            leaves = rw w.log-is (next_stored c.args.shapes.now.sealed cells i w.in-Some.cell.now _ _ _ here inv.leaves w.drop_cell.ensures.leaves);
             room = rw w.log-is (omega (arith, inv.room, w.drop_cell.ensures.spare));
           }
       | in_default w ↦

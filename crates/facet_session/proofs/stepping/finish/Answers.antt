@@ -8,7 +8,7 @@ use Rattle.facet_session.proofs.stepping.finish.Goals as goal
 pub text_of_end-requires : goal.text_of_end-requires
 text_of_end-requires g c =
     let session = c.args.session.now in
-    subst (All (HoldsValue g.L.Leaf.model session.shapes)) (sym c.as_slice.ensures) (cells_hold g.L.Leaf.model session c.requires)
+    subst (All (HoldsValue g.L.Leaf.model session.shapes.sealed)) (sym c.as_slice.ensures) (cells_hold g.L.Leaf.model session c.requires)
 
 pub drop_values-requires-clause-held : goal.drop_values-requires-clause-held
 drop_values-requires-clause-held g c = cells_hold g.L.Leaf.model c.args.session.now c.requires
@@ -19,14 +19,14 @@ returns-clause-turn g c state shown =
     let session = c.args.session.now in
     let empty = c.in_ok-make_room.ensures.leaves ∙ c.clear.ensures.leaves in
     let stored = stored_session m session state shown in
-    let gone = c.drop_values.ensures ∙ ap (λ xs. xs ++ stored_in_all session.shapes session.cells.items) empty ∙ stored in
+    let gone = c.drop_values.ensures ∙ ap (λ xs. xs ++ stored_in_all session.shapes.sealed session.cells.items) empty ∙ stored in
     record {
       text =
           c.in_ok-text.ensures
-          ∙ ap (λ cells. codes "end" ++ listed m (codes " dropped [") (stored_in_all session.shapes cells)) c.as_slice.ensures
+          ∙ ap (λ cells. codes "end" ++ listed m (codes " dropped [") (stored_in_all session.shapes.sealed cells)) c.as_slice.ensures
           ∙ ap (λ xs. codes "end" ++ listed m (codes " dropped [") xs) stored;
       made = refl;
       dropped = ap length (c.leaves.ensures ∙ gone);
-      state = record { registry = shown.registry; cells = subst (λ cells. ShowEntries m state.registry cells []) (sym c.new.ensures) tt };
+      state = record { registry = shown.registry; cells = subst (λ cells. ShowEntries m state.registry.sealed cells []) (sym c.new.ensures) tt };
       log = gone;
     }

@@ -18,8 +18,8 @@ loop-cell-preserved g c =
     record {
       utf8 = c.in_ok-some.ensures.utf8 c.loop-cell.invariant.utf8;
       written =
-          c.in_ok-some.ensures.written (stored_in_all c.args.shapes.now rest)
-          ∙ sym (ap (λ cs. c.loop-cell.bytes.items ++ rest_listed m (codes " dropped [") c.loop-cell.some (stored_in_all c.args.shapes.now cs)) step)
+          c.in_ok-some.ensures.written (stored_in_all c.args.shapes.now.sealed rest)
+          ∙ sym (ap (λ cs. c.loop-cell.bytes.items ++ rest_listed m (codes " dropped [") c.loop-cell.some (stored_in_all c.args.shapes.now.sealed cs)) step)
           ∙ c.loop-cell.invariant.written;
     }
 

@@ -10,6 +10,6 @@ invariant-loop-cell g l =
     let m = g.L.Leaf.model in
     record {
       utf8 : IsUtf8 l.bytes.items;
-      written : l.bytes.items ++ rest_listed m (codes " dropped [") l.some (stored_in_all l.shapes (drop l.cell-index l.cells))
-          ≡ codes "end" ++ listed m (codes " dropped [") (stored_in_all l.shapes l.cells);
+      written : l.bytes.items ++ rest_listed m (codes " dropped [") l.some (stored_in_all l.shapes.sealed (drop l.cell-index l.cells))
+          ≡ codes "end" ++ listed m (codes " dropped [") (stored_in_all l.shapes.sealed l.cells);
     }

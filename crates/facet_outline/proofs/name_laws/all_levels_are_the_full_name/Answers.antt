@@ -1,5 +1,0 @@
-use Rattle.facet_outline.proofs.FullNames.{all_levels_shown}
-use Rattle.facet_outline.proofs.name_laws.all_levels_are_the_full_name.Goals as goal
-
-pub returns : goal.returns
-returns c = all_levels_shown

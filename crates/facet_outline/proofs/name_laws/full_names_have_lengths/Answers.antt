@@ -1,5 +1,0 @@
-use Rattle.facet_outline.proofs.FullNames.{name_length, name_of_none}
-use Rattle.facet_outline.proofs.name_laws.full_names_have_lengths.Goals as goal
-
-pub returns : goal.returns
-returns c = record { there = name_length; missing = name_of_none }

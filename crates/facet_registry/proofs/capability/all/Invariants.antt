@@ -1,0 +1,7 @@
+use Rattle.std.proofs.Common.{◌≡◌, drop}
+use Rattle.std.specs.List.{list_all}
+use Rattle.facet_registry.specs.Registry.{all_shapes, offers}
+use Rattle.facet_registry.proofs.capability.all.Given as goal
+
+abbrev pub invariant-loop-id : goal.invariant-loop-id
+invariant-loop-id g l = list_all (λ id. offers (all_shapes l.shapes) id.0 l.c) (drop l.id-index l.ids) ≡ list_all (λ id. offers (all_shapes l.shapes) id.0 l.c) l.ids

@@ -1,5 +1,0 @@
-mod Drafts
-mod Preludes
-mod Scalars
-pub mod SealedLeaves
-pub mod WellFormedPrelude

@@ -1,7 +1,0 @@
-use Rattle.std.proofs.Common.{◌≡◌, drop}
-use Rattle.std.specs.List.{list_all}
-use Rattle.facet_shapes.specs.Registry.{offers}
-use Rattle.facet_shapes.proofs.capability.all.Given as goal
-
-abbrev pub invariant-loop-id : goal.invariant-loop-id
-invariant-loop-id g l = list_all (λ id. offers l.shapes id.0 l.c) (drop l.id-index l.ids) ≡ list_all (λ id. offers l.shapes id.0 l.c) l.ids

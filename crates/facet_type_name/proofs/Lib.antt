@@ -1,0 +1,4 @@
+pub mod FullNames
+pub mod NameChildren
+mod NamePieces
+pub mod SameNames
