@@ -1,23 +1,30 @@
 -- A line that is a command is a text: UTF-8 without a newline.
 use Rattle.std.proofs.Common.{◌≡◌, ℕ, ◌+◌, ◌<◌, true, false, List, [], ◌∷◌, ◌++◌, length, get_or, Some, refl, sym, ap, ◌∙◌, subst, arith, lit<}
-use Rattle.std.specs.List.{list_all, list_any}
+use Rattle.std.specs.List.{list_any, AllByRecursion}
 use Rattle.std.specs.Str.{IsUtf8}
 use Rattle.std.proofs.Math.Seq.{take-append_seam, drop-append-add}
-use Rattle.std.proofs.lemmas.Bool.{and_parts, or_parts, or_from}
+use Rattle.std.proofs.lemmas.Bool.{or_parts, or_from}
 use Rattle.std.proofs.lemmas.List.{get_or_at, length-append}
 use Rattle.std.proofs.lemmas.List.Folds.{list_any-append}
 use Rattle.std.proofs.lemmas.Str.{IsUtf8-append, IsUtf8-drop, IsUtf8-take, IsCharBoundary-after_ascii, IsCharBoundary-before_ascii, IsUtf8-from_ascii}
 use Rattle.std.proofs.lemmas.Str.Ascii.{IsAscii-nil, IsAscii-cons}
+use Rattle.facet_words.specs.Words.{is_newline}
+use Rattle.facet_words.proofs.WordBytes.{IsText, IsWord, text_tested, text_of_word}
+use Rattle.facet_grammar.specs.declared.token.Part.{Part}
+use Rattle.facet_grammar.specs.declared.token.Part.TheVariants as part
 use Rattle.facet_grammar.specs.declared.token.Token.{Token}
-use Rattle.facet_grammar.specs.declared.token.Token.TheVariants.{Name, Reference, Rest, Names}
+use Rattle.facet_grammar.specs.declared.token.Token.TheVariants.{Rest}
 use Rattle.facet_grammar.specs.declared.command.Command.{Command}
-use Rattle.facet_grammar.specs.Grammar.{command_of, spelling, IsWritable}
-use Rattle.facet_grammar.specs.Rows.{tokens_of}
-use Rattle.facet_grammar.specs.Tokens.{pieces_of, joined, spell_token, spell_tokens, IsToken, AreTokens}
-use Rattle.facet_grammar.specs.Words.{is_name, is_newline}
+use Rattle.facet_grammar.specs.Grammar.{command_of}
+use Rattle.facet_grammar.specs.Keywords.{text_of}
+use Rattle.facet_grammar.specs.Rows.{form_of, row_of, tokens_of}
+use Rattle.facet_grammar.specs.Pieces.{pieces_of, joined}
+use Rattle.facet_grammar.specs.Tokens.{spell_token, IsToken}
+use Rattle.facet_grammar.specs.Forms.{spell_tokens, AreTokens}
+use Rattle.facet_grammar.proofs.Keywords.{word_of_keyword}
+use Rattle.facet_grammar.proofs.OneToken.{token_words}
 use Rattle.facet_grammar.proofs.Pieces.{pieces_some, joined_pieces}
-use Rattle.facet_grammar.proofs.Spellings.{word_of_row, command_spelled}
-use Rattle.facet_grammar.proofs.WordBytes.{IsText, text_tested, text_of_word, word_of_name, word_of_reference}
+use Rattle.facet_grammar.proofs.Spellings.{begins, row_begins, command_spelled}
 
 -- each piece is a text
 abbrev AreTexts : List (List ℕ) → Type 0
@@ -65,31 +72,31 @@ text_pieces text u =
     let first = pieces_some text in
     subst AreTexts (sym first.1) (pieces_texts first.0.0 first.0.1 (subst IsText (sym (joined_pieces text) ∙ ap joined first.1) u))
 
--- each name is a text
-names_texts : (names : List (List ℕ)) → list_all is_name names ≡ true → AreTexts names
-names_texts [] h = tt
-names_texts (name ∷ names) h =
-    let parts : (is_name name ≡ true) × (list_all is_name names ≡ true) = and_parts _ _ h in
-    (text_of_word name (word_of_name name parts.0), names_texts names parts.1)
+-- words are texts
+words_texts : (pieces : List (List ℕ)) → AllByRecursion IsWord pieces → AreTexts pieces
+words_texts [] h = tt
+words_texts (piece ∷ pieces) h = (text_of_word piece h.0, words_texts pieces h.1)
 
 -- a token is written as texts
 token_texts : (token : Token) → IsToken token → AreTexts (spell_token token)
-token_texts (Name name) h = (text_of_word name (word_of_name name h), tt)
-token_texts (Reference shape) h = (text_of_word _ (word_of_reference shape.0 h), tt)
 token_texts (Rest text) h = text_pieces text (text_tested text h)
-token_texts (Names names) h = names_texts names h
+token_texts token h = words_texts (spell_token token) (token_words token h)
 
--- tokens are written as texts
-tokens_texts : (tokens : List Token) → AreTokens tokens → AreTexts (spell_tokens tokens)
-tokens_texts [] h = tt
-tokens_texts (token ∷ tokens) h = append_texts (spell_token token) (spell_tokens tokens) (token_texts token h.0) (tokens_texts tokens h.1)
+-- tokens and keywords are written as texts
+form_texts : (form : List Part) (tokens : List Token) → AreTokens tokens → AreTexts (spell_tokens form tokens)
+form_texts [] tokens h = tt
+form_texts (part.Keyword keyword ∷ form) tokens h = (text_of_word _ (word_of_keyword keyword), form_texts form tokens h)
+form_texts (part.Token k ∷ form) [] h = tt
+form_texts (part.Token k ∷ form) (token ∷ tokens) h = append_texts (spell_token token) (spell_tokens form tokens) (token_texts token h.0) (form_texts form tokens h.1)
 
--- the spelling of a command that can be written is a text
-spelling_text : (command : Command) → IsWritable command → IsText (spelling command)
-spelling_text command h = joined_text _ _ (text_of_word _ (word_of_row command), tokens_texts (tokens_of command) h)
+-- what begins with a keyword is written as a text
+spelled_text : (form : List Part) (tokens : List Token) → begins form ≡ true → AreTokens tokens → IsText (joined (spell_tokens form tokens))
+spelled_text [] tokens b h = let no : ⊥ = cc in absurd no
+spelled_text (part.Keyword keyword ∷ form) tokens b h = joined_text (text_of keyword) (spell_tokens form tokens) (form_texts (part.Keyword keyword ∷ form) tokens h)
+spelled_text (part.Token k ∷ form) tokens b h = let no : ⊥ = cc in absurd no
 
 -- a line that is a command is its spelling, so it is a text
 pub command_text : (line : List ℕ) (command : Command) → command_of line ≡ Some command → IsText line
 command_text line command e =
     let spelled = command_spelled line command e in
-    subst IsText spelled.0 (spelling_text command spelled.1)
+    subst IsText spelled.0 (spelled_text (form_of (row_of command)) (tokens_of command) (row_begins command) spelled.1)

@@ -1,9 +1,11 @@
+mod Apart
 mod CommandTexts
+mod Declarations
 mod Inverse
-mod Numbers
+mod Keywords
 mod OneToken
 mod Pieces
 mod ReadingLoops
-mod Spellings
+pub mod Spellings
 mod Table
-mod WordBytes
+mod Words

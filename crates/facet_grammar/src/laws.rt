@@ -2,14 +2,14 @@
 
 ghost use Rattle.std.specs.Prelude.{◌≡◌, ℕ, true, List, Some};
 ghost use Rattle.facet_grammar.specs.declared.command.Command.{Command};
-ghost use Rattle.facet_grammar.specs.declared.token.Kind.{Kind};
+ghost use Rattle.facet_grammar.specs.declared.token.Part.{Part};
 ghost use Rattle.facet_grammar.specs.Grammar.{command_of, spelling, IsWritable};
-ghost use Rattle.facet_grammar.specs.Tokens.{AreInverse, is_form};
-ghost use Rattle.facet_grammar.specs.Words.{is_text};
+ghost use Rattle.facet_grammar.specs.Forms.{AreInverse, is_form};
+ghost use Rattle.facet_words.specs.Words.{is_text};
 
 /// Reading and writing tokens of a form are inverse.
 pub fn forms_are_inverse()
-    ensures { (form : List Kind) → is_form form ≡ true → AreInverse form }
+    ensures { (form : List Part) → is_form form ≡ true → AreInverse form }
 {}
 
 /// A line that is a command is the spelling of that command, which can be written.

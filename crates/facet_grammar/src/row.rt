@@ -1,38 +1,57 @@
 ghost use Rattle.std.specs.Prelude.{◌≡◌, true};
-ghost use Rattle.facet_grammar.specs.Tokens.{kinds_are};
-ghost use Rattle.facet_grammar.specs.Rows.{word_of, form_of, row_of, tokens_of};
+ghost use Rattle.facet_grammar.specs.Forms.{kinds_are};
+ghost use Rattle.facet_grammar.specs.Rows.{form_of, row_of, tokens_of};
 
 use crate::command::Command;
 use crate::cursor::{next_name, next_reference, next_rest};
-use crate::token::{Kind, Token};
+use crate::declaration_row::{DeclRow, declaration_from};
+use crate::keyword::Keyword;
+use crate::part::{NAME, REF, TEXT};
+use crate::token::{Part, Token};
 use std::collections::VecDeque;
 
 /// A row of the table of commands.
 #[derive(Clone, Copy)]
 pub enum Row {
+    /// A declaration.
+    Shape(DeclRow),
+    /// `seal`
+    Seal,
     /// `put NAME REF TEXT`
     Put,
 }
 
 /// The rows, in the order in which they are tried.
-pub const ROWS: [Row; 1] = [Row::Put];
+pub const ROWS: [Row; 18] = [
+    Row::Put,
+    Row::Seal,
+    Row::Shape(DeclRow::OptionOf),
+    Row::Shape(DeclRow::ListOf),
+    Row::Shape(DeclRow::SetOf),
+    Row::Shape(DeclRow::SliceOf),
+    Row::Shape(DeclRow::BoxOf),
+    Row::Shape(DeclRow::BoxedSliceOf),
+    Row::Shape(DeclRow::ArrayOf),
+    Row::Shape(DeclRow::MapOf),
+    Row::Shape(DeclRow::ResultOf),
+    Row::Shape(DeclRow::TupleOf),
+    Row::Shape(DeclRow::Struct),
+    Row::Shape(DeclRow::TupleStruct),
+    Row::Shape(DeclRow::Enum),
+    Row::Shape(DeclRow::Opaque),
+    Row::Shape(DeclRow::OpaqueUnsized),
+    Row::Shape(DeclRow::Scalar),
+];
 
 impl Row {
-    /// The word that the command begins with.
-    pub fn word(self) -> &'static str
-        ensures { result.now ≡ word_of self }
-    {
-        match self {
-            Row::Put => "put",
-        }
-    }
-
-    /// The kinds of the tokens behind the word.
-    pub fn form(self) -> &'static [Kind]
+    /// The keywords and the kinds of tokens, in order.
+    pub fn form(self) -> &'static [Part]
         ensures { result.now ≡ form_of self }
     {
         match self {
-            Row::Put => &[Kind::Name, Kind::Reference, Kind::Rest],
+            Row::Shape(row) => row.form(),
+            Row::Seal => &[Part::Keyword(Keyword::Seal)],
+            Row::Put => &[Part::Keyword(Keyword::Put), NAME, REF, TEXT],
         }
     }
 }
@@ -43,8 +62,18 @@ pub fn command_from(row: Row, mut tokens: VecDeque<Token>) -> Command
     ensures row { row_of result ≡ row }
     ensures tokens { tokens_of result ≡ tokens.items }
 {
-    let tokens = &mut tokens;
     match row {
-        Row::Put => Command::Put(next_name(tokens), next_reference(tokens), next_rest(tokens)),
+        Row::Shape(row) => Command::Shape(declaration_from(row, tokens)),
+        Row::Seal => Command::Seal,
+        Row::Put => put_from(&mut tokens),
     }
+}
+
+// The `put` that has these tokens.
+fn put_from(tokens: &mut VecDeque<Token>) -> Command
+    requires { kinds_are (form_of Row.Put) tokens.old.items ≡ true }
+    ensures row { row_of result ≡ Row.Put }
+    ensures tokens { tokens_of result ≡ tokens.old.items }
+{
+    Command::Put(next_name(tokens), next_reference(tokens), next_rest(tokens))
 }

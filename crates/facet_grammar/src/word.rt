@@ -1,55 +1,65 @@
-ghost use Rattle.std.specs.Prelude.{◌≡◌};
-ghost use Rattle.std.specs.List.{list_all, list_any};
-ghost use Rattle.facet_grammar.specs.Words.{is_name as is_a_name, is_name_byte, is_newline, number_of, is_unpadded as is_unpadded_text, reference_of};
+ghost use Rattle.std.specs.Prelude.{◌≡◌, ℕ, List, Option, IfOk};
+ghost use Rattle.facet_declaration.specs.Fields.{field_of};
+ghost use Rattle.facet_declaration.specs.Variants.{variant_of};
+ghost use Rattle.facet_grammar.specs.Tokens.{name_of, shape_of};
+ghost use Rattle.facet_words.specs.Options.{option_of};
 
-/// Whether a text is a name.
-pub fn is_name(text: &str) -> bool
-    ensures { result ≡ is_a_name text.now }
-{
-    !text.is_empty() && text.len() <= 32 && has_name_bytes(text)
+use facet_base::{ShapeId, Text};
+use facet_declaration::{FieldDecl, VariantDecl, read_field, read_variant};
+use facet_words::{Opt, is_name, read_option, read_reference};
+use std::alloc::{AllocError, Global};
+
+/// A word of one piece, of which a line may have several in a row.
+pub trait Word: Sized + Drop {
+    /// The word that a piece is.
+    ghost of: { List ℕ → Option Self };
+
+    /// The word that a piece is, if it is one.
+    fn read(alloc: Global, piece: &str) -> Result<Option<Self>, AllocError>
+        ensures { IfOk result (λ found. found ≡ of piece.now) };
 }
 
-// Whether each byte of a text may stand in a name.
-fn has_name_bytes(text: &str) -> bool
-    ensures { result ≡ list_all is_name_byte text.now }
-{
-    text.bytes().all(|b| b.is_ascii_alphanumeric() || b == b'_')
-}
+// Texts in a row are names.
+impl Word for Text {
+    ghost of = { name_of };
 
-/// The number behind a `#`.
-pub fn read_reference(text: &str) -> Option<u32>
-    ensures { result ≡ reference_of text.now }
-{
-    match text.strip_prefix('#') {
-        Some(digits) => read_number(digits),
-        None => None,
+    fn read(alloc: Global, piece: &str) -> Result<Option<Text>, AllocError> {
+        if is_name(piece) {
+            Ok(Some(Text::new(alloc, piece)?))
+        } else {
+            Ok(None)
+        }
     }
 }
 
-// The number that a text of digits is, if it is one.
-fn read_number(text: &str) -> Option<u32>
-    ensures { result ≡ number_of text.now }
-{
-    if text.len() > 9 || text.starts_with('+') || !is_unpadded(text) {
-        return None;
-    }
-    text.parse::<u32>().ok()
-}
+impl Word for ShapeId {
+    ghost of = { shape_of };
 
-// Whether a text is one byte, or several of which the first isn't a 0.
-fn is_unpadded(text: &str) -> bool
-    ensures { result ≡ is_unpadded_text text.now }
-{
-    match text.as_bytes() {
-        [] => false,
-        [_] => true,
-        [first, ..] => *first != b'0',
+    fn read(_alloc: Global, piece: &str) -> Result<Option<ShapeId>, AllocError> {
+        Ok(read_reference(piece).map(|n| ShapeId(n)))
     }
 }
 
-/// Whether a text has a newline.
-pub fn has_newline(text: &str) -> bool
-    ensures { result ≡ list_any is_newline text.now }
-{
-    text.bytes().any(|b| b == b'\n')
+impl Word for Opt {
+    ghost of = { option_of };
+
+    fn read(alloc: Global, piece: &str) -> Result<Option<Opt>, AllocError> {
+        read_option(alloc, piece)
+    }
+}
+
+impl Word for FieldDecl {
+    ghost of = { field_of };
+
+    fn read(alloc: Global, piece: &str) -> Result<Option<FieldDecl>, AllocError> {
+        read_field(alloc, piece)
+    }
+}
+
+impl Word for VariantDecl {
+    ghost of = { variant_of };
+
+    fn read(alloc: Global, piece: &str) -> Result<Option<VariantDecl>, AllocError> {
+        read_variant(alloc, piece)
+    }
 }

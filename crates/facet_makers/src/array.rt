@@ -4,7 +4,7 @@ ghost use Rattle.facet_registry.specs.Registry.{all_shapes, with_draft};
 ghost use Rattle.facet_makers.specs.Makers.{array_shape};
 ghost use Rattle.facet_registry.specs.Offsets.{part_at};
 
-use crate::draft::draft;
+use crate::drafting::draft;
 use crate::generic::{built_in, with_length, with_parameter};
 use crate::offering::offering;
 use crate::operations::array_operations;

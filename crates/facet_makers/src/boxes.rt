@@ -4,7 +4,7 @@ ghost use Rattle.facet_registry.specs.Registry.{all_shapes, with_draft};
 ghost use Rattle.facet_makers.specs.Makers.{box_of, box_shape, boxed_slice_shape};
 ghost use Rattle.facet_makers.specs.Slices.{is_slice_at};
 
-use crate::draft::draft;
+use crate::drafting::draft;
 use crate::generic::{in_module, with_parameter};
 use crate::offering::offering;
 use crate::operations::{box_operations, boxed_slice_operations};

@@ -3,7 +3,7 @@
 
 mod array;
 mod boxes;
-mod draft;
+mod drafting;
 mod generic;
 pub mod laws;
 mod list;
@@ -23,6 +23,7 @@ mod types;
 
 pub use array::array_of;
 pub use boxes::{box_of, boxed_slice_of};
+pub use drafting::draft;
 pub use list::list_of;
 pub use map::map_of;
 pub use option::option_of;

@@ -3,7 +3,7 @@ ghost use Rattle.facet_shape.specs.WithoutSpare.{shape_without_spare};
 ghost use Rattle.facet_registry.specs.Registry.{all_shapes, with_draft};
 ghost use Rattle.facet_makers.specs.Makers.{set_shape};
 
-use crate::draft::draft;
+use crate::drafting::draft;
 use crate::generic::{in_module, with_parameter};
 use crate::offering::offering;
 use crate::operations::set_operations;

@@ -3,7 +3,7 @@ ghost use Rattle.facet_shape.specs.WithoutSpare.{shape_without_spare};
 ghost use Rattle.facet_registry.specs.Registry.{all_shapes, with_draft};
 ghost use Rattle.facet_makers.specs.Makers.{slice_shape};
 
-use crate::draft::draft;
+use crate::drafting::draft;
 use crate::generic::{built_in, with_parameter};
 use crate::offering::offering;
 use crate::operations::slice_operations;

@@ -6,7 +6,7 @@ ghost use Rattle.facet_makers.specs.Makers.{tuple_of, tuple_shape};
 ghost use Rattle.facet_registry.specs.Offsets.{part_at};
 ghost use Rattle.facet_makers.specs.Types.{tuple_identifier};
 
-use crate::draft::draft;
+use crate::drafting::draft;
 use crate::generic::built_in;
 use crate::offering::offering;
 use crate::tuple_parts::{TupleParts, tuple_parts};

@@ -8,6 +8,7 @@ ghost use Rattle.facet_script.specs.Output.{status_of};
 ghost use Rattle.facet_script.specs.Progress.{HasAnswered};
 ghost use Rattle.facet_script.specs.Run.{Serves, IsCutShort};
 
+use crate::input::LIMIT;
 use crate::output::{OutputError, write_line};
 use crate::{Report, Status};
 use facet_block::Leaf;
@@ -15,14 +16,15 @@ use facet_session::{Session, finish, step};
 use facet_stream::Sink;
 use std::alloc::{AllocError, Global};
 
-/// Answers each line of a script, and the end.
+/// Answers each line of a script of at most `LIMIT` bytes, and the end.
 pub fn serve<L: Leaf, K: Sink>(
     alloc: Global,
     script: &[u8],
     sink: &mut K,
     session: &mut Session<L>,
 ) -> Report
-    requires { IsNew L.model session.old }
+    requires new { IsNew L.model session.old }
+    requires short { length script.now ≤ LIMIT }
     ensures served { Serves L.model script.now result (K.written sink.old) (K.written sink.new) session.new }
     ensures dropped { result.status ≡ Status.Ok → session.new.cells.items ≡ [] }
     ensures status { (result.status ≡ Status.Ok) ⊎ IsCutShort result.status }
@@ -54,7 +56,8 @@ fn serve_lines<L: Leaf, K: Sink>(
     sink: &mut K,
     session: &mut Session<L>,
 ) -> Result<usize, Report>
-    requires { IsNew L.model session.old }
+    requires new { IsNew L.model session.old }
+    requires short { length script.now ≤ LIMIT }
     ensures progress { IfOk result (λ k. HasAnswered L.model script.now k (last (after L.model script.now k) ∷ []) (K.written sink.old) (K.written sink.new) session.new) }
     ensures few { IfOk result (λ k. k ≤ length script.now) }
     ensures kept { OnOk result (K.faults sink.new ≡ K.faults sink.old) }

@@ -6,7 +6,7 @@ use Rattle.std.proofs.lemmas.Bool.Decides.{nat_tests}
 use Rattle.std.proofs.lemmas.List.Elements.{All-from_recursion}
 use Rattle.facet_leaf.specs.OneLine.{IsOneLine}
 use Rattle.facet_session.specs.declared.refusal.Refusal.{Refusal}
-use Rattle.facet_session.specs.declared.refusal.Refusal.TheVariants.{Syntax, NoSuchShape, Taken, WrongShape, BadText, Unsupported}
+use Rattle.facet_session.specs.declared.refusal.Refusal.TheVariants.{Syntax, NoSuchShape, Taken, WrongShape, BadText, Unsupported, MissingDeclId}
 use Rattle.facet_session.specs.Refusal.{words_of}
 use Rattle.facet_session.specs.State.{State, leaves_of_entries}
 use Rattle.facet_session.specs.Turn.{Turn, refused, refused_or}
@@ -33,6 +33,7 @@ words_one_line Taken = one_line (words_of Taken) refl
 words_one_line WrongShape = one_line (words_of WrongShape) refl
 words_one_line BadText = one_line (words_of BadText) refl
 words_one_line Unsupported = one_line (words_of Unsupported) refl
+words_one_line MissingDeclId = one_line (words_of MissingDeclId) refl
 
 pub refused_laws : {L : Type 0} (state : State L) (refusal : Refusal) → TurnLaws state (refused state refusal)
 refused_laws state refusal = record { balance = λ p. omega arith; words = words_one_line refusal }

@@ -20,16 +20,21 @@ none_holds true refusal rest none = absurd (cc)
 none_holds false refusal rest none = (refl, none)
 
 module _ {L : Type 0} (m : LeafModel L) where
-  -- a session that stays as it is, its log empty, and an answer of words alone carry out a refusal
-  pub refused_carried : (session : Session L) (answer : Answer) (refusal : Refusal) (state : State L) → session.log.leaves ≡ []
-      → answer ≡ record { text = words_of refusal; made = 0; dropped = 0 } → Shows m session state → CarriesOut m session answer (refused state refusal)
-  refused_carried session answer refusal state empty same shown = record {
-    text = ap (λ a. a.text) same ∙ sym (append-nil (words_of refusal)) ∙ sym (append-nil (words_of refusal ++ []));
+  -- a session whose log is empty, and an answer of words alone, carry out a turn of these words without leaves
+  pub words_carried : (now : Session L) (answer : Answer) (words : List ℕ) (state : State L) → now.log.leaves ≡ []
+      → answer ≡ record { text = words; made = 0; dropped = 0 } → Shows m now state → CarriesOut m now answer (record { state = state; words = words; made = []; dropped = [] })
+  words_carried now answer words state empty same shown = record {
+    text = ap (λ a. a.text) same ∙ sym (append-nil words) ∙ sym (append-nil (words ++ []));
     made = ap (λ a. a.made) same;
     dropped = ap (λ a. a.dropped) same;
     state = shown;
     log = empty;
   }
+
+  -- so it is of a refusal, where the session stays as it is
+  pub refused_carried : (session : Session L) (answer : Answer) (refusal : Refusal) (state : State L) → session.log.leaves ≡ []
+      → answer ≡ record { text = words_of refusal; made = 0; dropped = 0 } → Shows m session state → CarriesOut m session answer (refused state refusal)
+  refused_carried session answer refusal state empty same shown = words_carried session answer (words_of refusal) state empty same shown
 
   -- a command that was read from a line is carried out as the line's step, whatever the log held
   pub next_carried : (before cleared now : Session L) (answer : Answer) (line : List ℕ) (command : Option Command) → IsUnchanged before cleared → command ≡ command_of line

@@ -4,7 +4,7 @@ use Rattle.std.specs.List.{list_any}
 use Rattle.facet_shape.specs.declared.shape.Shape.{Shape}
 use Rattle.facet_session.specs.State.{State}
 use Rattle.facet_session.specs.declared.refusal.Refusal.{Refusal}
-use Rattle.facet_session.specs.declared.refusal.Refusal.TheVariants.{Syntax, NoSuchShape, Taken, WrongShape, BadText, Unsupported}
+use Rattle.facet_session.specs.declared.refusal.Refusal.TheVariants.{Syntax, NoSuchShape, Taken, WrongShape, BadText, Unsupported, MissingDeclId}
 
 -- the words of the answer
 abbrev pub words_of : Refusal → List ℕ
@@ -14,6 +14,7 @@ words_of Taken = codes "taken"
 words_of WrongShape = codes "wrong shape"
 words_of BadText = codes "bad text"
 words_of Unsupported = codes "unsupported"
+words_of MissingDeclId = codes "refused MissingDeclId"
 
 -- the refusal of the first condition that holds, if one does
 abbrev pub first_refusal : List (Bool × Refusal) → Option Refusal

@@ -2,7 +2,7 @@
 use Rattle.std.specs.Prelude.{◌≡◌, ℕ, Bool, ◌+◌, List, [], ◌∷◌, ◌++◌, take, if◌then◌else◌, count_by}
 use Rattle.std.specs.List.{flat_map, onto_first}
 use Rattle.facet_leaf.specs.LeafModel.{LeafModel}
-pub use Rattle.facet_grammar.specs.Words.{is_newline}
+pub use Rattle.facet_words.specs.Words.{is_newline}
 use Rattle.facet_session.specs.Interpreter.{State, Turn, first_state, next, last, leaves_of_entries, text_of}
 
 -- the lines, cut at each newline; what follows the last newline is one where it isn't empty

@@ -21,6 +21,10 @@ pub record State (L : Type 0) : Type 0 where
 abbrev pub first_state : {L : Type 0} → LeafModel L → State L
 first_state m = record { registry = prelude m; entries = [] }
 
+-- the state over another registry
+abbrev pub with_registry : {L : Type 0} → State L → Registry → State L
+with_registry state registry = record { registry = registry; entries = state.entries }
+
 -- the state with a new entry, the last one
 abbrev pub with_entry : {L : Type 0} → State L → Entry L → State L
 with_entry state entry = record { registry = state.registry; entries = state.entries ++ entry ∷ [] }

@@ -1,1 +1,3 @@
 pub mod put;
+pub mod seal;
+pub mod shape;

@@ -12,6 +12,8 @@ mod session;
 mod stepping;
 mod writing;
 
+pub use facet_declaration::{Decl, FieldDecl, VariantDecl};
 pub use facet_grammar::{Command, read_command};
+pub use facet_words::{Caps, Opt};
 pub use session::{Answer, Cell, Session};
 pub use stepping::{finish, step};

@@ -2,6 +2,7 @@ ghost use Rattle.std.specs.Prelude.{◌≡◌, IfOk};
 ghost use Rattle.facet_session.specs.Refusal.{words_of};
 
 use crate::session::Answer;
+use crate::writing::answer_without_leaves;
 use facet_base::Text;
 use std::alloc::{AllocError, Global};
 
@@ -20,6 +21,8 @@ pub enum Refusal {
     BadText,
     /// The record of the shape lacks what the command needs.
     Unsupported,
+    /// A declaration has parameters, and neither a module path nor a declaration id other than 0.
+    MissingDeclId,
 }
 
 impl Refusal {
@@ -34,6 +37,7 @@ impl Refusal {
             Refusal::WrongShape => "wrong shape",
             Refusal::BadText => "bad text",
             Refusal::Unsupported => "unsupported",
+            Refusal::MissingDeclId => "refused MissingDeclId",
         }
     }
 }
@@ -42,9 +46,5 @@ impl Refusal {
 pub fn refuse(alloc: Global, refusal: Refusal) -> Result<Answer, AllocError>
     ensures { IfOk result (λ answer. answer ≡ record { text = words_of refusal; made = 0; dropped = 0 }) }
 {
-    Ok(Answer {
-        text: Text::new(alloc, refusal.words())?,
-        made: 0,
-        dropped: 0,
-    })
+    Ok(answer_without_leaves(Text::new(alloc, refusal.words())?))
 }

@@ -4,12 +4,23 @@ ghost use Rattle.facet_session.specs.Cell.{HoldsValue, stored_in, stored_in_all}
 ghost use Rattle.facet_session.specs.Listing.{rest_listed};
 ghost use Rattle.facet_session.specs.Turn.{listed};
 
-use crate::session::Cell;
+use crate::session::{Answer, Cell};
 use facet_base::Text;
 use facet_block::{Leaf, PtrConst};
 use facet_make::leaf_at;
 use facet_registry::Shapes;
 use std::alloc::{AllocError, Global};
+
+/// The answer of words alone.
+pub fn answer_without_leaves(text: Text) -> Answer
+    ensures { result ≡ record { text = text; made = 0; dropped = 0 } }
+{
+    Answer {
+        text,
+        made: 0,
+        dropped: 0,
+    }
+}
 
 /// The text of an answer to a leaf that was made.
 pub fn text_of_made<L: Leaf>(alloc: Global, leaf: &L) -> Result<Text, AllocError>

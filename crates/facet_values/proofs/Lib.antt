@@ -3,4 +3,4 @@ mod OneReading
 pub mod PartPlaces
 pub mod ReadablePlaces
 mod SameReading
-mod StayingReading
+pub mod StayingReading

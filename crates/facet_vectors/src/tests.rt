@@ -1,8 +1,11 @@
 ghost use Rattle.std.specs.Prelude.{◌<◌};
 
+mod declarations;
 mod rows;
+mod seal;
 
 use crate::fault::MainFault;
+use declarations::{DECLARATIONS, NEAR_DECLARATIONS};
 use facet_base::{Many, Text, Write};
 use facet_leaf::Scalar;
 use facet_script::{Report, Session, Status, run};
@@ -117,6 +120,12 @@ fn rows_are_answered(rt: &impl Abort, alloc: Global, rows: &str, most: usize) ->
 fn each_script_has_its_answers(rt: HostRuntime) -> Result<(), Fail> {
     rows_are_answered(&rt, rt.alloc(), ROWS, 4096)?;
     rows_are_answered(&rt, rt.alloc(), ROWS_WITH_ESCAPES, 4096)
+}
+
+#[test]
+fn declarations_are_drafted_or_refused(rt: HostRuntime) -> Result<(), Fail> {
+    rows_are_answered(&rt, rt.alloc(), DECLARATIONS, 4096)?;
+    rows_are_answered(&rt, rt.alloc(), NEAR_DECLARATIONS, 4096)
 }
 
 #[test]

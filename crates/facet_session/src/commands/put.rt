@@ -1,6 +1,6 @@
-ghost use Rattle.std.specs.Prelude.{◌≡◌, ◌<◌, [], length, Some, IfOk, OnOk, OnErr, IsTrue, bytes_eq};
+ghost use Rattle.std.specs.Prelude.{◌≡◌, ◌<◌, ◌≤◌, [], length, Some, IfOk, OnOk, OnErr, IsTrue, bytes_eq};
 ghost use Rattle.std.specs.List.{list_any};
-ghost use Rattle.facet_registry.specs.Registry.{kind_at, size_at, offers};
+ghost use Rattle.facet_registry.specs.Registry.{all_shapes, kind_at, size_at, offers};
 ghost use Rattle.facet_registry.specs.WellFormed.{IsRegistry};
 ghost use Rattle.facet_block.specs.Block.{empty_block, with_item};
 ghost use Rattle.facet_block.specs.declared.block.Item.{Leaf};
@@ -29,6 +29,7 @@ pub fn put<L: Leaf>(
     requires { session.old.log.leaves ≡ [] }
     ensures turn { IfOk result (λ answer. (state : State L) → Shows L.model session.old state
         → CarriesOut L.model session.new answer (put_turn L.model state name shape.0 text.now)) }
+    ensures few { OnOk result (length (all_shapes session.new.shapes) ≤ length (all_shapes session.old.shapes)) }
     ensures kept { OnOk result (KeepsCells session.old session.new) }
     ensures err { OnErr result (IsUnchanged session.old session.new) }
     ensures cleared { OnErr result (session.new.log.leaves ≡ []) }
@@ -105,6 +106,7 @@ fn add_leaf<L: Leaf>(
     requires kind { kind_at session.old.shapes.sealed shape.0 ≡ ValueKind.Leaf (L.model.kind leaf) }
     ensures turn { IfOk result (λ answer. (state : State L) → Shows L.model session.old state
         → CarriesOut L.model session.new answer (add_parsed state name shape.0 (Some leaf))) }
+    ensures few { OnOk result (length (all_shapes session.new.shapes) ≤ length (all_shapes session.old.shapes)) }
     ensures kept { OnOk result (KeepsCells session.old session.new) }
     ensures err { OnErr result (IsUnchanged session.old session.new) }
     ensures cleared { OnErr result (session.new.log.leaves ≡ []) }

@@ -1,5 +1,5 @@
 use Rattle.facet_grammar.proofs.CommandTexts.{command_text}
-use Rattle.facet_grammar.proofs.WordBytes.{test_of_text}
+use Rattle.facet_words.proofs.WordBytes.{test_of_text}
 use Rattle.facet_grammar.proofs.laws.commands_are_texts.Goals as goal
 
 pub returns : goal.returns

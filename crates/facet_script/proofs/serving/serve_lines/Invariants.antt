@@ -1,4 +1,5 @@
 use Rattle.std.proofs.Common.{◌≡◌, ◌+◌, ◌≤◌, length}
+use Rattle.facet_registry.specs.Registry.{all_shapes}
 use Rattle.facet_session.specs.Script.{lines, turns_from, after}
 use Rattle.facet_script.specs.Progress.{HasAnswered}
 use Rattle.facet_script.proofs.serving.serve_lines.Given as goal
@@ -11,6 +12,7 @@ invariant-loop-rest g l =
     record {
       progress : HasAnswered m l.script l.lines (turns_from m (after m l.script l.lines) (lines l.rest)) (written l.fn.sink) (written l.sink) l.session;
       few : l.lines + length l.rest ≤ length l.script;
+      room : length (all_shapes l.session.shapes) + length l.rest ≤ 16 + length l.script;
       kept : faults l.sink ≡ faults l.fn.sink;
     }
 

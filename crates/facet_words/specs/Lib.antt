@@ -1,0 +1,6 @@
+pub mod Caps
+pub mod FixedWords
+pub mod Integers
+pub mod Options
+pub mod Paths
+pub mod Words
