@@ -273,6 +273,16 @@ fn a_script_may_have_a_mebibyte(rt: HostRuntime) -> Result<(), Fail> {
     Ok(())
 }
 
+// Whether the command is `put a #6 x y`.
+fn is_put(found: &Option<Command>) -> bool {
+    match found {
+        Some(Command::Put(name, shape, text)) => {
+            name.as_str() == "a" && shape.0 == 6 && text.as_str() == "x y"
+        }
+        _ => false,
+    }
+}
+
 #[test]
 fn calls_that_take_memory_answer(rt: HostRuntime) -> Result<(), Fail> {
     let alloc = rt.alloc();
@@ -286,14 +296,8 @@ fn calls_that_take_memory_answer(rt: HostRuntime) -> Result<(), Fail> {
     Write::reserve(&mut bytes, 3)?;
     Write::write(&mut bytes, b"abc")?;
     assert_eq!(rt; bytes.as_slice(), b"abc".as_slice());
-    match read_command(alloc, b"put a #6 x y")? {
-        Some(Command::Put(name, shape, text)) => {
-            assert_eq!(rt; name.as_str(), "a");
-            assert_eq!(rt; shape.0, 6);
-            assert_eq!(rt; text.as_str(), "x y");
-        }
-        _ => assert!(rt; false, "it is this command"),
-    }
+    let found = read_command(alloc, b"put a #6 x y")?;
+    assert!(rt; is_put(&found));
     Ok(())
 }
 
