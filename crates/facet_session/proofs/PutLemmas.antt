@@ -16,7 +16,8 @@ use Rattle.facet_outline.specs.declared.value_kind.ValueKind.TheVariants as kind
 use Rattle.facet_values.proofs.LeafReading.{leaf_block_size, reads_leaf}
 use Rattle.facet_values.specs.Place.{leaf_block, start_of}
 use Rattle.facet_values.specs.Reading.{Reads}
-use Rattle.facet_values.specs.Value.{leaf, leaves}
+use Rattle.facet_trees.specs.Value.{leaf, leaves}
+use Rattle.facet_values.specs.Scalars.{is_scalar}
 use Rattle.facet_session.specs.declared.session.Session.{Session}
 use Rattle.facet_session.specs.declared.session.Cell.{Cell}
 use Rattle.facet_session.specs.declared.session.Answer.{Answer}
@@ -26,7 +27,7 @@ use Rattle.facet_session.specs.Refusal.{first_refusal, is_unsealed, is_taken}
 use Rattle.facet_session.specs.Session.{ShowsEntry, ShowEntries, Shows, CarriesOut}
 use Rattle.facet_session.specs.State.{Entry, State, leaves_of_entries}
 use Rattle.facet_session.specs.Turn.{refused, refused_or, listed}
-use Rattle.facet_session.specs.commands.Put.{conditions, parsed_as, add_parsed, put, is_scalar}
+use Rattle.facet_session.specs.commands.Put.{conditions, parsed_as, add_parsed, put}
 use Rattle.facet_session.proofs.ShownSessions.{show_more, taken_shown}
 use Rattle.facet_session.proofs.TurnLaws.{TurnLaws, one_line, refused_laws, refused_or_laws}
 use Rattle.facet_session.proofs.TurnLemmas.{none_holds}
@@ -77,6 +78,7 @@ module _ {L : Type 0} (m : LeafModel L) where
         name = refl;
         shape = refl;
         sealed = sealed;
+        scalar = ap is_scalar of;
         size = ap size_of block ∙ leaf_block_size x (size_at shapes s);
         reads = subst (λ b. Reads m shapes (start_of s b) (leaf x)) (sym block) (reads_leaf m shapes s x of some);
       }

@@ -1,17 +1,20 @@
 -- What a cell holds.
-use Rattle.std.specs.Prelude.{◌<◌, List, length}
+use Rattle.std.specs.Prelude.{◌≡◌, ◌<◌, true, List, length}
 use Rattle.std.specs.List.{flat_map}
 use Rattle.std.specs.Option.{option_to_list}
 use Rattle.facet_leaf.specs.LeafModel.{LeafModel}
+use Rattle.facet_registry.specs.Registry.{kind_at}
 use Rattle.facet_shape.specs.declared.shape.Shape.{Shape}
 use Rattle.facet_values.specs.Place.{start_of}
 use Rattle.facet_values.specs.Reading.{IsReadable}
+use Rattle.facet_values.specs.Scalars.{is_scalar}
 use Rattle.facet_values.specs.Seen.{leaf_at}
 use Rattle.facet_session.specs.declared.session.Cell.{Cell}
 
--- the cell's shape is sealed, and its block reads from 0 as some value
+-- the cell's shape is sealed, its values are the unit or leaves, and its block reads from 0 as one of them
 pub record HoldsValue {L : Type 0} (m : LeafModel L) (shapes : List Shape) (cell : Cell L) : Type 0 where
   pub sealed : cell.shape.0 < length shapes
+  pub scalar : is_scalar (kind_at shapes cell.shape.0) ≡ true
   pub readable : IsReadable m shapes (start_of cell.shape.0 cell.block)
 
 -- the leaf of one cell's value, if it is one

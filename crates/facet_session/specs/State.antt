@@ -4,7 +4,7 @@ use Rattle.std.specs.List.{flat_map}
 use Rattle.facet_leaf.specs.LeafModel.{LeafModel}
 use Rattle.facet_registry.specs.Prelude.{prelude}
 use Rattle.facet_registry.specs.Registry.{Registry}
-use Rattle.facet_values.specs.Value.{Value, leaves}
+use Rattle.facet_trees.specs.Value.{Value, leaves}
 
 -- a named value of a shape
 pub record Entry (L : Type 0) : Type 0 where

@@ -1,6 +1,19 @@
+pub mod AlikeReadings
+pub mod FittingValues
+pub mod KindRows
+pub mod KindStructures
+pub mod LaidOut
 pub mod LeafReading
-mod OneReading
+pub mod MovedValues
+pub mod OneReading
 pub mod PartPlaces
+pub mod PartsInBlocks
 pub mod ReadablePlaces
-mod SameReading
+pub mod ReplacedParts
+pub mod SameReading
+pub mod SeenParts
 pub mod StayingReading
+pub mod StructureRows
+mod TagForms
+pub mod ValueAt
+pub mod WholePlaces

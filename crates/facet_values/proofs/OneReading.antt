@@ -2,9 +2,9 @@
 use Rattle.std.proofs.Common.{◌≡◌, List, [], ◌∷◌, refl, subst}
 use Rattle.facet_leaf.specs.LeafModel.{LeafModel}
 use Rattle.facet_shape.specs.declared.shape.Shape.{Shape}
+use Rattle.facet_trees.specs.Value.{Value, Values, leaf, node, none, more}
 use Rattle.facet_values.specs.Place.{Place}
 use Rattle.facet_values.specs.Reading.{Reads, ReadAll}
-use Rattle.facet_values.specs.Value.{Value, Values, leaf, node, none, more}
 
 module _ {L : Type 0} (m : LeafModel L) (shapes : List Shape) where
   mutual
@@ -20,7 +20,7 @@ module _ {L : Type 0} (m : LeafModel L) (shapes : List Shape) where
         let same = one_list r.0 vs ws r.3 (subst (λ ps. ReadAll m shapes ps ws) same_parts s.3) in
         cc
 
-    one_list : (ps : List (Place L)) (vs ws : Values L) → ReadAll m shapes ps vs → ReadAll m shapes ps ws → vs ≡ ws
+    pub one_list : (ps : List (Place L)) (vs ws : Values L) → ReadAll m shapes ps vs → ReadAll m shapes ps ws → vs ≡ ws
     one_list [] none none r s = refl
     one_list [] none (more w ws) r s = absurd s
     one_list [] (more v vs) ws r s = absurd r

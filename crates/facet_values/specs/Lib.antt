@@ -1,5 +1,7 @@
-pub mod PartPlace
+pub mod Laid
 pub mod Place
 pub mod Reading
+pub mod Replaced
+pub mod Rows
+pub mod Scalars
 pub mod Seen
-pub mod Value

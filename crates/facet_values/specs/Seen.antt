@@ -1,14 +1,13 @@
--- What a value at a place begins with. This file alone goes by the kinds to read; a kind that isn't named here has no values yet.
-use Rattle.std.specs.Prelude.{List, [], Option, None, Some}
+-- What a value at a place begins with.
+use Rattle.std.specs.Prelude.{List, Option, None, Some, slice_get}
+use Rattle.std.specs.Option.{option_map_or}
 use Rattle.facet_block.specs.declared.block.Item.{Item}
-use Rattle.facet_block.specs.Block.{item_at, leaf_of}
-use Rattle.facet_registry.specs.Registry.{kind_at}
+use Rattle.facet_block.specs.Block.{leaf_of, sequence_of, tag_of}
+use Rattle.facet_block.specs.Seq.{filled_of}
 use Rattle.facet_shape.specs.declared.shape.Shape.{Shape}
-use Rattle.facet_outline.specs.declared.value_kind.ValueKind.{ValueKind}
-use Rattle.facet_outline.specs.declared.value_kind.ValueKind.TheVariants as kind
-use Rattle.facet_values.specs.declared.form.Form.{Form}
-use Rattle.facet_values.specs.declared.form.Form.TheVariants as form
-use Rattle.facet_values.specs.Place.{Place}
+use Rattle.facet_trees.specs.Structure.{Structure, no_values, plain, scalar, sequence, tagged, block_body, structure_at}
+use Rattle.facet_trees.specs.declared.form.Form.{Form}
+use Rattle.facet_values.specs.Place.{Place, block_places, own_item, part_places}
 
 -- nothing that a value begins with, a leaf, or a form and the places of its parts
 pub data Seen (L : Type 0) : Type 0 where
@@ -16,24 +15,24 @@ pub data Seen (L : Type 0) : Type 0 where
   a_leaf : L → Seen L
   a_node : Form → List (Place L) → Seen L
 
-abbrev pub seen_leaf : {L : Type 0} → Option L → Seen L
-seen_leaf None = no_value
-seen_leaf (Some x) = a_leaf x
-
--- by the kind of the shape and the item where the place begins
-abbrev pub seen_kind : {L : Type 0} → ValueKind → Option (Item L) → Seen L
-seen_kind kind.Unit found = a_node form.Unit []
-seen_kind (kind.Leaf k) found = seen_leaf (leaf_of found)
-seen_kind _ found = no_value
-
-unfoldable pub seen : {L : Type 0} → List Shape → Place L → Seen L
-seen shapes p = seen_kind (kind_at shapes p.shape) (item_at p.block p.offset)
-
--- the leaf that the value begun so is, where it is one
+-- the leaf that is seen, where it is one
 abbrev pub leaf_of_seen : {L : Type 0} → Seen L → Option L
 leaf_of_seen (a_leaf x) = Some x
 leaf_of_seen _ = None
 
--- the leaf that the value at a place is, where it is one
-abbrev pub leaf_at : {L : Type 0} → List Shape → Place L → Option L
-leaf_at shapes p = leaf_of_seen (seen shapes p)
+module _ {L : Type 0} (shapes : List Shape) where
+  -- by the structure of the shape's values, the place, and the item there
+  abbrev pub seen_by : Structure → Place L → Option (Item L) → Seen L
+  seen_by no_values p found = no_value
+  seen_by (scalar k) p found = option_map_or a_leaf (leaf_of found) no_value
+  seen_by (plain form body) p found = a_node form (part_places p body)
+  seen_by (tagged forms bodies) p found =
+      option_map_or (λ tag. option_map_or (λ body. a_node (forms tag) (part_places p body)) (slice_get bodies tag) no_value) (tag_of found) no_value
+  seen_by (sequence form ids) p found = option_map_or (λ s. a_node form (block_places (block_body shapes ids) (filled_of s))) (sequence_of found) no_value
+
+  unfoldable pub seen : Place L → Seen L
+  seen p = seen_by (structure_at shapes p.shape) p (own_item p)
+
+  -- the leaf that the value at a place is, where it is one
+  abbrev pub leaf_at : Place L → Option L
+  leaf_at p = leaf_of_seen (seen p)

@@ -1,25 +1,20 @@
 -- `put NAME #SHAPE TEXT`: parses a text as a scalar of a shape, under a new name.
-use Rattle.std.specs.Prelude.{ℕ, Bool, true, false, not, List, [], ◌∷◌, Option, None, Some, codes}
+use Rattle.std.specs.Prelude.{ℕ, Bool, not, List, [], ◌∷◌, Option, None, Some, codes}
 use Rattle.facet_base.specs.declared.characteristic.Characteristic.TheVariants as characteristic
 use Rattle.facet_leaf.specs.LeafModel.{LeafModel}
 use Rattle.facet_registry.specs.Registry.{kind_at, offers}
 use Rattle.facet_shape.specs.declared.shape.Shape.{Shape}
 use Rattle.facet_outline.specs.declared.value_kind.ValueKind.{ValueKind}
 use Rattle.facet_outline.specs.declared.value_kind.ValueKind.TheVariants as kind
-use Rattle.facet_values.specs.Value.{leaf}
+use Rattle.facet_trees.specs.Value.{leaf}
+use Rattle.facet_values.specs.Scalars.{is_scalar}
 use Rattle.facet_session.specs.Refusal.{first_refusal, is_unsealed, is_taken}
 use Rattle.facet_session.specs.State.{State, with_entry}
 use Rattle.facet_session.specs.Turn.{Turn, refused, refused_or}
 use Rattle.facet_session.specs.declared.refusal.Refusal.{Refusal}
 use Rattle.facet_session.specs.declared.refusal.Refusal.TheVariants.{NoSuchShape, Taken, WrongShape, BadText, Unsupported}
 
--- the kinds that the command serves are the unit and leaves
-abbrev pub is_scalar : ValueKind → Bool
-is_scalar kind.Unit = true
-is_scalar (kind.Leaf k) = true
-is_scalar _ = false
-
--- the refusals that come before the text is parsed, in their order, each with its condition
+-- the refusals that come before the text is parsed, in their order, each with its condition; the kinds that the command serves are the unit and leaves
 abbrev pub conditions : List Shape → Bool → ℕ → List (Bool × Refusal)
 conditions shapes taken s =
     (is_unsealed shapes s, NoSuchShape)

@@ -7,7 +7,8 @@ ghost use Rattle.facet_block.specs.declared.block.Item.{Leaf};
 ghost use Rattle.facet_session.specs.Refusal.{first_refusal};
 ghost use Rattle.facet_session.specs.Session.{Shows, CarriesOut, KeepsCells, IsUnchanged};
 ghost use Rattle.facet_session.specs.State.{State};
-ghost use Rattle.facet_session.specs.commands.Put.{conditions, parsed_as, add_parsed, put as put_turn, is_scalar as is_scalar_kind};
+ghost use Rattle.facet_session.specs.commands.Put.{conditions, parsed_as, add_parsed, put as put_turn};
+ghost use Rattle.facet_values.specs.Scalars.{is_scalar as is_scalar_kind};
 
 use crate::conditions::{is_taken, is_unsealed};
 use crate::refusal::{Refusal, refuse};

@@ -4,6 +4,7 @@ use Rattle.facet_registry.specs.Registry.{kind_at}
 use Rattle.facet_outline.specs.declared.value_kind.ValueKind.TheVariants as kind
 use Rattle.facet_values.proofs.LeafReading.{leaf_readable}
 use Rattle.facet_values.proofs.ReadablePlaces.{one_leaf_at_most}
+use Rattle.facet_values.specs.Scalars.{is_scalar}
 use Rattle.facet_make.proofs.ParsedLeaves.{kind_of_parsed}
 use Rattle.facet_make.proofs.tests.is_found_and_dropped.Goals as goal
 
@@ -34,4 +35,11 @@ drop_value-requires-clause-readable g c =
     rw (c.new-2.ensures.same_block, c.new-2.ensures.offset) (leaf_readable m sealed c.args.id.0 c.in-Ok.leaf of some c.in_ok-block.block c.in_ok-block.ensures)
 
 pub drop_value-requires-clause-room : goal.drop_value-requires-clause-room
-drop_value-requires-clause-room g c v reads = omega (arith, c.in_ok-make_room.ensures.ok, one_leaf_at_most g.L.Leaf.model c.args.shapes.now.sealed _ v reads)
+drop_value-requires-clause-room g c v reads =
+    let below : c.args.id.0 < length c.args.shapes.now.sealed = omega (arith, c.if-id-sealed.false, c.sealed.ensures.count) in
+    omega (arith, c.in_ok-make_room.ensures.ok, one_leaf_at_most g.L.Leaf.model c.args.shapes.now.sealed _ v (ap is_scalar (sym (c.in-Leaf.ensures.sealed below))) reads)
+
+pub drop_value-requires-clause-scalar : goal.drop_value-requires-clause-scalar
+drop_value-requires-clause-scalar g c =
+    let below : c.args.id.0 < length c.args.shapes.now.sealed = omega (arith, c.if-id-sealed.false, c.sealed.ensures.count) in
+    ap is_scalar (sym (c.in-Leaf.ensures.sealed below))

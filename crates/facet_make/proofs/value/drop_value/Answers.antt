@@ -5,7 +5,8 @@ use Rattle.facet_registry.proofs.SealedLeaves.{sealed_leaves}
 use Rattle.facet_registry.specs.Registry.{kind_at}
 use Rattle.facet_outline.specs.declared.value_kind.ValueKind.TheVariants as kind
 use Rattle.facet_values.specs.Place.{place_in}
-use Rattle.facet_values.proofs.ReadablePlaces.{leaf_held, leaf_read, no_leaves, cleared_of_leaf, cleared_of_nothing, no_span_by_kind}
+use Rattle.facet_values.proofs.KindStructures.{unit_of_scalar}
+use Rattle.facet_values.proofs.ReadablePlaces.{leaf_held, leaf_read, no_leaves, cleared_of_leaf, cleared_of_nothing}
 use Rattle.facet_make.proofs.value.drop_value.Goals as goal
 
 pub kind_of-requires : goal.kind_of-requires
@@ -50,7 +51,7 @@ returns-in_default g c =
     let is = c.requires.readable in
     let other : (k : ScalarType) → kind_at sealed c.args.id.0 ≡ kind.Leaf k → ⊥ = λ k of. c.in_default.not-Leaf k (c.kind_of.ensures.sealed c.requires.sealed ∙ of) in
     record {
-      leaves = λ v reads. sym (append-nil c.args.log.now.leaves) ∙ ap (λ xs. c.args.log.now.leaves ++ xs) (sym (no_leaves m sealed p v other reads));
+      leaves = λ v reads. sym (append-nil c.args.log.now.leaves) ∙ ap (λ xs. c.args.log.now.leaves ++ xs) (sym (no_leaves m sealed p v c.requires.scalar other reads));
       spare = λ v reads. omega arith;
-      cleared = cleared_of_nothing m sealed p is.value is.reads (no_span_by_kind (kind_at sealed c.args.id.0) other);
+      cleared = cleared_of_nothing m sealed p is.value is.reads (unit_of_scalar (kind_at sealed c.args.id.0) c.requires.scalar other);
     }

@@ -1,5 +1,6 @@
-use Rattle.facet_values.proofs.SameReading.{reads_same}
+use Rattle.facet_values.proofs.LaidOut.{laid_out}
+use Rattle.facet_values.proofs.SameReading.{reads_alike}
 use Rattle.facet_values.proofs.laws.same_reading.Goals as goal
 
 pub returns : goal.returns
-returns g c shapes p q v well = reads_same g.L.Leaf.model shapes well p q v
+returns g c = λ shapes p q v well. reads_alike g.L.Leaf.model shapes (laid_out g.L.Leaf.model shapes well) p q v

@@ -1,0 +1,10 @@
+pub mod AnswerChains
+pub mod AnswersAgree
+pub mod EqualValues
+pub mod FormsOfShape
+pub mod LeafOrders
+pub mod OfferedComparisons
+pub mod OrderLaws
+pub mod PartShapes
+pub mod Unanswered
+pub mod VariantsOfEnums

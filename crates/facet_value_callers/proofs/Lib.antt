@@ -1,0 +1,4 @@
+mod EmptyLists
+mod Leaves
+mod LeafOptions
+mod ReplacedLeaves

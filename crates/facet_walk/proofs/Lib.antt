@@ -1,0 +1,4 @@
+mod PartLookups
+mod PartTotals
+pub mod ReadableParts
+mod SeenKinds
