@@ -1,4 +1,4 @@
 mod PartLookups
 mod PartTotals
 pub mod ReadableParts
-mod SeenKinds
+pub mod SeenKinds

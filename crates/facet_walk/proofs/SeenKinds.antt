@@ -72,7 +72,7 @@ no_pairs (def.Map m) offset blocks other = absurd (other m refl)
 no_pairs _ offset blocks other = no_places blocks
 
 -- a shape whose values are sequences says by its definition what they consist of
-abbrev HasElements : ValueKind → Def → Type 0
+abbrev pub HasElements : ValueKind → Def → Type 0
 HasElements kind.List (def.List d) = ⊤
 HasElements kind.List _ = ⊥
 HasElements kind.Set (def.Set d) = ⊤
@@ -113,11 +113,11 @@ of_scalar (Some scalar.Str) element d t = of_def element d t
 of_scalar (Some k) element d t = tt
 of_scalar None element d t = of_def element d t
 
-has_elements : (element : Option ShapeId) (shape : Shape) → HasElements (kind_of element shape) shape.def
+pub has_elements : (element : Option ShapeId) (shape : Shape) → HasElements (kind_of element shape) shape.def
 has_elements element shape = of_scalar shape.scalar element shape.def shape.ty
 
 -- what a list, a set or a box consists of
-list_element : (d : Def) → HasElements kind.List d → parts_of_def d ≡ option_to_list (element_in d)
+pub list_element : (d : Def) → HasElements kind.List d → parts_of_def d ≡ option_to_list (element_in d)
 list_element (def.List d) has = refl
 list_element _ has = absurd has
 
@@ -156,10 +156,10 @@ module _ (shapes : List Shape) where
     pub kind : kind_at shapes s ≡ k
 
   module _ {L : Type 0} (p : Place L) (k : ValueKind) (shape : Shape) (is : IsOfKind p.shape k shape) where
-    kind_here : kind_in shapes (shape_without_spare shape) ≡ k
+    pub kind_here : kind_in shapes (shape_without_spare shape) ≡ k
     kind_here = sym (ap (λ o. option_map_or (kind_in shapes) o kind.NoValue) is.here) ∙ is.kind
 
-    structure_here : structure_at shapes p.shape ≡ structure_of_kind shapes k (shape_without_spare shape)
+    pub structure_here : structure_at shapes p.shape ≡ structure_of_kind shapes k (shape_without_spare shape)
     unfolding structure_at
     structure_here =
         ap (λ o. option_map_or (λ t. structure_of_kind shapes (kind_in shapes t) t) o no_values) is.here
@@ -173,11 +173,11 @@ module _ (shapes : List Shape) where
     unfolding arrangements
     arranged_here = ap (λ j. arrangements_of_kind (layout_at shapes) j shape.def (ty_without_spare shape.ty)) kind_here
 
-    parts_here : parts (element_of shapes shape.def) (shape_without_spare shape) ≡ parts_of_kind k (element_of shapes shape.def) shape.def (ty_without_spare shape.ty)
+    pub parts_here : parts (element_of shapes shape.def) (shape_without_spare shape) ≡ parts_of_kind k (element_of shapes shape.def) shape.def (ty_without_spare shape.ty)
     unfolding parts
     parts_here = ap (λ j. parts_of_kind j (element_of shapes shape.def) shape.def (ty_without_spare shape.ty)) kind_here
 
-    elements_here : HasElements k shape.def
+    pub elements_here : HasElements k shape.def
     elements_here = subst (λ j. HasElements j shape.def) kind_here (has_elements (element_of shapes shape.def) (shape_without_spare shape))
 
     part_offset_here : part_offset_at shapes p.shape ≡ part_offset_by_def shapes shape.def

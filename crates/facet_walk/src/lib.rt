@@ -15,7 +15,9 @@ mod tags;
 mod tests;
 
 pub use leaf_counts::leaf_count;
-pub use levels::depth;
+pub use levels::{MAX_LEVELS, depth};
 pub use parts::Parts;
 pub use place::Place;
+pub use sealed::{pointed_elements, sealed_shape};
 pub use seeing::{Seen, see};
+pub use sequences::element_in;

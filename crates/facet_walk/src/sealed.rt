@@ -12,8 +12,8 @@ use facet_outline::{pointee_of, slice_element};
 use facet_registry::Shapes;
 use facet_shape::Shape;
 
-/// The shape under the id of a sealed one.
-pub(crate) fn sealed_shape<L: Leaf>(shapes: &Shapes<L>, id: ShapeId) -> &Shape
+/// The shape under the id of a sealed one. Requires that the id is below `sealed()`.
+pub fn sealed_shape<L: Leaf>(shapes: &Shapes<L>, id: ShapeId) -> &Shape
     requires { id.0 < length shapes.now.sealed }
     ensures { slice_get shapes.now.sealed id.0 ≡ Some (shape_without_spare result.now) }
 {
@@ -24,7 +24,7 @@ pub(crate) fn sealed_shape<L: Leaf>(shapes: &Shapes<L>, id: ShapeId) -> &Shape
 }
 
 /// The elements of the slice that a definition points to, if it points to one.
-pub(crate) fn pointed_elements<L: Leaf>(shapes: &Shapes<L>, def: &Def) -> Option<ShapeId>
+pub fn pointed_elements<L: Leaf>(shapes: &Shapes<L>, def: &Def) -> Option<ShapeId>
     ensures { result ≡ element_of (all_shapes shapes.now) def.now }
 {
     match pointee_of(def) {

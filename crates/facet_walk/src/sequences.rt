@@ -15,7 +15,7 @@ use facet_def::Def;
 use facet_trees::Form;
 
 /// The shape of the elements of a list or of a set, or of what a box holds, by the definition.
-pub(crate) fn element_in(def: &Def) -> Option<ShapeId>
+pub fn element_in(def: &Def) -> Option<ShapeId>
     ensures { result ≡ element_in def.now }
 {
     match def {

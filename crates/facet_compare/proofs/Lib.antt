@@ -1,0 +1,7 @@
+mod AlikeParts
+mod AnsweredByKind
+mod ComparedPlaces
+mod ComparisonLaws
+mod HashLaws
+mod PlacesHashed
+mod TotalAnswers
