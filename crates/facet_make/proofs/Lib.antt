@@ -1,1 +1,16 @@
-mod ParsedLeaves
+pub mod BlockSizes
+pub mod CloneLaws
+pub mod CloneSteps
+pub mod ClonedNodes
+pub mod DefaultCases
+pub mod DefaultLaws
+pub mod DefaultSteps
+pub mod InitialStructures
+pub mod InlineStructures
+pub mod MadeByStructure
+pub mod MadeInOrder
+pub mod OfferedLeaves
+pub mod PartsMade
+pub mod PlainPlaces
+pub mod StructureForms
+pub mod TaggedMade

@@ -1,10 +1,14 @@
-//! Operations that make the values at places and drop them: so far those on the leaf that a value is.
+//! Defaults and clones are made in place; what is made of one that is refused is taken back.
 #![tactic(auto)]
 
-mod leaf;
-#[cfg(test)]
-mod tests;
-mod value;
+mod clone;
+mod cloning;
+mod default;
+mod initial;
+/// The laws of defaults and clones.
+pub mod laws;
+mod plain;
+mod room;
 
-pub use leaf::leaf_at;
-pub use value::drop_value;
+pub use clone::call_clone_into;
+pub use default::call_default_in_place;

@@ -1,6 +1,13 @@
-//! The operations on values whose type is known only at run time: all that `facet_compare` has, and what `facet_walk`
-//! says of a value as a whole.
+//! The operations on values whose type is known only at run time: comparing, hashing, reading, making and dropping them,
+//! and what containers hold.
 #![tactic(auto)]
 
 pub use facet_compare::{call_cmp, call_hash, call_partial_cmp, call_partial_eq};
+pub use facet_contain::{
+    borrow, get_err, get_ok, get_value, init_err, init_none, init_ok, init_some, is_ok, is_some,
+    list_capacity, list_get, list_len, map_len, set_len_of, slice_get, slice_len, variant_of,
+};
+pub use facet_drop::{call_drop_in_place, make_room_for, write_leaves};
+pub use facet_make::{call_clone_into, call_default_in_place};
+pub use facet_readable::reads_as;
 pub use facet_walk::{depth, leaf_count};

@@ -16,12 +16,17 @@ pub same_behind : {A : Type 0} (xs ys : List A) (i : ℕ) (x : A) → drop i xs 
 same_behind xs ys i x rest =
     drop-set-lt (i + 1) xs i x (omega arith) ∙ sym (drop-drop 1 i xs) ∙ ap (drop 1) rest ∙ drop-drop 1 i ys
 
+-- what is stored from an index on is what the cell there stores, and then the rest
+pub next_cell : {L : Type 0} (shapes : List Shape) (cells : List (Cell L)) (i : ℕ) (cell : Cell L) → slice_get cells i ≡ Some cell
+    → stored_in_all shapes (drop i cells) ≡ stored_in shapes cell ++ stored_in_all shapes (drop (i + 1) cells)
+next_cell shapes cells i cell here =
+    ap (stored_in_all shapes) (drop_more cells i cell (slice_get_within cells i cell here) ∙ ap (λ c. c ∷ drop (i + 1) cells) (get_or_from_slice_get cells i cell cell here))
+
 -- the leaves of the cell at a place are those that come next
 pub next_stored : {L : Type 0} (shapes : List Shape) (cells : List (Cell L)) (i : ℕ) (cell : Cell L) (before now all : List L) → slice_get cells i ≡ Some cell
     → before ++ stored_in_all shapes (drop i cells) ≡ all → now ≡ before ++ stored_in shapes cell → now ++ stored_in_all shapes (drop (i + 1) cells) ≡ all
 next_stored shapes cells i cell before now all here rest grown =
-    let step = drop_more cells i cell (slice_get_within cells i cell here) ∙ ap (λ c. c ∷ drop (i + 1) cells) (get_or_from_slice_get cells i cell cell here) in
     ap (λ xs. xs ++ stored_in_all shapes (drop (i + 1) cells)) grown
     ∙ append_assoc before (stored_in shapes cell) (stored_in_all shapes (drop (i + 1) cells))
-    ∙ ap (λ cs. before ++ stored_in_all shapes cs) (sym step)
+    ∙ ap (λ xs. before ++ xs) (sym (next_cell shapes cells i cell here))
     ∙ rest

@@ -3,10 +3,12 @@ mod AnswerTexts
 pub mod BalanceLemmas
 mod DroppingCells
 mod InterpreterLaws
+mod ListedLeaves
 mod PutLemmas
 mod SealLemmas
 mod ShapeLemmas
 pub mod ShownSessions
+mod StoredLeaves
 mod TupleParts
 mod TurnLaws
 mod TurnLemmas

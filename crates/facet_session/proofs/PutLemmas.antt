@@ -78,9 +78,9 @@ module _ {L : Type 0} (m : LeafModel L) where
         name = refl;
         shape = refl;
         sealed = sealed;
-        scalar = ap is_scalar of;
         size = ap size_of block ∙ leaf_block_size x (size_at shapes s);
         reads = subst (λ b. Reads m shapes (start_of s b) (leaf x)) (sym block) (reads_leaf m shapes s x of some);
+        shallow = omega arith;
       }
 
   -- a session with such a cell more carries out a `put` of the leaf

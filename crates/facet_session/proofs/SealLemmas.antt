@@ -10,13 +10,12 @@ use Rattle.facet_causes.specs.declared.cause.SealError.{SealError}
 use Rattle.facet_leaf.specs.OneLine.{IsOneLine}
 use Rattle.facet_leaf.proofs.OneLines.{number}
 use Rattle.facet_leaf.specs.LeafModel.{LeafModel}
-use Rattle.facet_registry.proofs.SealedReadings.{kind_stays, size_stays}
+use Rattle.facet_registry.proofs.SealedReadings.{size_stays}
 use Rattle.facet_registry.specs.Registry.{all_sealed, all_shapes, without_drafts}
 use Rattle.facet_registry.specs.WellFormed.{IsRegistry}
 use Rattle.facet_shape.specs.declared.shape.Shape.{Shape}
 use Rattle.facet_values.proofs.StayingReading.{reads_longer}
 use Rattle.facet_values.specs.Place.{start_of}
-use Rattle.facet_values.specs.Scalars.{is_scalar}
 use Rattle.facet_verdict.specs.Verdict.{answer_of}
 use Rattle.facet_verdict.proofs.Deciding.{verdict}
 use Rattle.facet_verdict.proofs.Naming.{first_named, none_named}
@@ -36,9 +35,9 @@ module _ {L : Type 0} (m : LeafModel L) where
       name = shown.name;
       shape = shown.shape;
       sealed = let all = length-append sealed drafts in let below = shown.sealed in omega (arith, all, below);
-      scalar = ap is_scalar (kind_stays m sealed drafts well entry.shape shown.sealed) ∙ shown.scalar;
       size = shown.size ∙ sym (size_stays m sealed drafts well entry.shape shown.sealed);
       reads = reads_longer m sealed drafts well (start_of entry.shape cell.block) entry.value shown.sealed shown.reads;
+      shallow = shown.shallow;
     }
 
     -- entries stay when drafts are sealed

@@ -1,15 +1,14 @@
 -- A state that a session shows: what its cells store, and what a cell more shows.
-use Rattle.std.proofs.Common.{◌≡◌, arith, true, ℕ, List, [], ◌∷◌, ◌++◌, All, refl, sym, ap, ◌∙◌, subst, bytes_eq}
+use Rattle.std.proofs.Common.{◌≡◌, ℕ, List, [], ◌∷◌, ◌++◌, All, refl, sym, ap, ◌∙◌, subst, bytes_eq}
 use Rattle.std.specs.List.{list_any, AllByRecursion}
 use Rattle.std.proofs.lemmas.List.Elements.{All-from_recursion}
 use Rattle.facet_leaf.specs.LeafModel.{LeafModel}
 use Rattle.facet_registry.specs.Prelude.{prelude}
 use Rattle.facet_shape.specs.declared.shape.Shape.{Shape}
-use Rattle.facet_registry.specs.Registry.{kind_at}
-use Rattle.facet_values.proofs.ReadablePlaces.{leaves_read, one_level_at_most}
+use Rattle.facet_trees.specs.Value.{leaves}
+use Rattle.facet_values.proofs.ValueAt.{value_found}
 use Rattle.facet_values.specs.Place.{start_of}
 use Rattle.facet_values.specs.Reading.{Reads}
-use Rattle.facet_values.specs.Scalars.{is_scalar}
 use Rattle.facet_session.specs.declared.session.Session.{Session}
 use Rattle.facet_session.specs.declared.session.Cell.{Cell}
 use Rattle.facet_session.specs.Interpreter.{last}
@@ -46,15 +45,9 @@ module _ {L : Type 0} (m : LeafModel L) where
     at_start : (cell : Cell L) (entry : Entry L) → ShowsEntry m shapes cell entry → Reads m shapes (start_of cell.shape.0 cell.block) entry.value
     at_start cell entry shown = rw shown.shape shown.reads
 
-    scalar_shown : (cell : Cell L) (entry : Entry L) → ShowsEntry m shapes cell entry → is_scalar (kind_at shapes cell.shape.0) ≡ true
-    scalar_shown cell entry shown = rw shown.shape shown.scalar
-
     holds_value : (cell : Cell L) (entry : Entry L) → ShowsEntry m shapes cell entry → HoldsValue m shapes cell
     holds_value cell entry shown =
-        let scalar = scalar_shown cell entry shown in
-        let reads = at_start cell entry shown in
-        let levels = one_level_at_most m shapes (start_of cell.shape.0 cell.block) entry.value scalar reads in
-        record { sealed = rw shown.shape shown.sealed; scalar = scalar; readable = record { value = entry.value; reads = reads; shallow = omega (arith, levels) } }
+        record { sealed = rw shown.shape shown.sealed; readable = record { value = entry.value; reads = at_start cell entry shown; shallow = shown.shallow } }
 
     -- each cell holds a value
     pub all_hold : (cells : List (Cell L)) (entries : List (Entry L)) → ShowEntries m shapes cells entries → AllByRecursion (HoldsValue m shapes) cells
@@ -69,7 +62,7 @@ module _ {L : Type 0} (m : LeafModel L) where
     stored_shown [] (e ∷ es) shown = absurd shown
     stored_shown (c ∷ cs) [] shown = absurd shown
     stored_shown (c ∷ cs) (e ∷ es) shown =
-        let first = leaves_read m shapes (start_of c.shape.0 c.block) e.value (scalar_shown c e shown.0) (at_start c e shown.0) in
+        let first = ap leaves (value_found m shapes 100 (start_of c.shape.0 c.block) e.value (at_start c e shown.0) shown.0.shallow) in
         let rest = stored_shown cs es shown.1 in
         cc
 

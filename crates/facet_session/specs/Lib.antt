@@ -1,6 +1,5 @@
 pub mod Cell
 pub mod Interpreter
-pub mod Listing
 pub mod Refusal
 pub mod Script
 pub mod Session

@@ -1,13 +1,13 @@
 -- A session against the interpreter's state.
-use Rattle.std.specs.Prelude.{◌≡◌, ◌<◌, true, List, [], ◌∷◌, length, Contains}
+use Rattle.std.specs.Prelude.{◌≡◌, ◌<◌, ◌≤◌, List, [], ◌∷◌, length, Contains}
 use Rattle.facet_block.specs.Block.{size_of}
 use Rattle.facet_leaf.specs.LeafModel.{LeafModel}
 use Rattle.facet_registry.specs.Prelude.{prelude}
-use Rattle.facet_registry.specs.Registry.{kind_at, size_at}
+use Rattle.facet_registry.specs.Registry.{size_at}
 use Rattle.facet_shape.specs.declared.shape.Shape.{Shape}
+use Rattle.facet_trees.specs.Value.{depth}
 use Rattle.facet_values.specs.Place.{start_of}
 use Rattle.facet_values.specs.Reading.{Reads}
-use Rattle.facet_values.specs.Scalars.{is_scalar}
 use Rattle.facet_session.specs.declared.session.Session.{Session}
 use Rattle.facet_session.specs.declared.session.Cell.{Cell}
 use Rattle.facet_session.specs.declared.session.Answer.{Answer}
@@ -15,14 +15,14 @@ use Rattle.facet_session.specs.State.{Entry, State}
 use Rattle.facet_session.specs.Turn.{Turn, text_of}
 
 module _ {L : Type 0} (m : LeafModel L) where
-  -- a cell has the name and the shape of an entry, which is sealed and whose values are the unit or leaves, and its block, of the shape's size, reads from 0 as the entry's value
+  -- a cell has the name and the shape of an entry, which is sealed, and its block, of the shape's size, reads from 0 as the entry's value, which has at most 100 levels
   pub record ShowsEntry (shapes : List Shape) (cell : Cell L) (entry : Entry L) : Type 0 where
     pub name : cell.name ≡ entry.name
     pub shape : cell.shape.0 ≡ entry.shape
     pub sealed : entry.shape < length shapes
-    pub scalar : is_scalar (kind_at shapes entry.shape) ≡ true
     pub size : size_of cell.block ≡ size_at shapes entry.shape
     pub reads : Reads m shapes (start_of entry.shape cell.block) entry.value
+    pub shallow : depth entry.value ≤ 100
 
   -- the cells do so, each at its turn
   abbrev pub ShowEntries : List Shape → List (Cell L) → List (Entry L) → Type 0

@@ -4,7 +4,7 @@ ghost use Rattle.facet_session.specs.Interpreter.{HasParts, next, last, turn_of}
 ghost use Rattle.facet_session.specs.Session.{Shows, IsReady, CarriesOut, KeepsCells, IsUnchanged};
 ghost use Rattle.facet_session.specs.State.{State};
 
-use crate::cells::drop_values;
+use crate::cells::{drop_values, make_room};
 use crate::commands::put::put;
 use crate::commands::seal::seal;
 use crate::commands::shape::shape;
@@ -46,7 +46,7 @@ pub fn finish<L: Leaf>(alloc: Global, session: &mut Session<L>) -> Result<Answer
     ensures cleared { OnErr result (session.new.log.leaves ≡ []) }
 {
     session.log.clear();
-    session.log.make_room(session.cells.len())?;
+    make_room(&session.shapes, session.cells.as_slice(), &mut session.log)?;
     let text = text_of_end(alloc, &session.shapes, session.cells.as_slice())?;
     drop_values(&session.shapes, &mut session.cells, &mut session.log);
     session.cells = Many::new(alloc);

@@ -1,13 +1,13 @@
-ghost use Rattle.std.specs.Prelude.{◌≡◌, ◌++◌, ◌∷◌, [], ℕ, List, All, Bool, IfOk, OnOk, codes};
+ghost use Rattle.std.specs.Prelude.{◌≡◌, ◌++◌, ◌∷◌, [], List, All, IfOk, OnOk, codes};
 ghost use Rattle.std.specs.Str.{IsUtf8};
+ghost use Rattle.facet_drop.specs.LeavesText.{leaves_text};
 ghost use Rattle.facet_session.specs.Cell.{HoldsValue, stored_in, stored_in_all};
-ghost use Rattle.facet_session.specs.Listing.{rest_listed};
 ghost use Rattle.facet_session.specs.Turn.{listed};
 
 use crate::session::{Answer, Cell};
 use facet_base::Text;
 use facet_block::{Leaf, PtrConst};
-use facet_make::leaf_at;
+use facet_drop::write_leaves;
 use facet_registry::Shapes;
 use std::alloc::{AllocError, Global};
 
@@ -41,38 +41,43 @@ pub fn text_of_end<L: Leaf>(
     requires { All (HoldsValue L.model shapes.now.sealed) cells.now }
     ensures { IfOk result (λ text. text ≡ codes "end" ++ listed L.model (codes " dropped [") (stored_in_all shapes.now.sealed cells.now)) }
 {
+    let mut list = Vec::new(alloc);
+    for cell in cells {
+        push_stored(&mut list, shapes, cell)?;
+    }
     let mut bytes = Vec::new(alloc);
     bytes.extend_from_slice(b"end")?;
-    let mut some = false;
-    for cell in cells {
-        some = push_stored(&mut bytes, shapes, cell, some)?;
-    }
-    if some {
-        bytes.push(b']')?;
-    }
+    push_list::<L>(&mut bytes, " dropped [", list.as_slice())?;
     Ok(Text::from_utf8(bytes))
 }
 
-// Writes the leaf of a cell, if it has one, behind others or as the first. Whether there is one then.
+// Writes the leaves of a cell, each behind a comma and a space.
 fn push_stored<L: Leaf>(
     bytes: &mut Vec<u8>,
     shapes: &Shapes<L>,
     cell: &Cell<L>,
-    some: bool,
-) -> Result<bool, AllocError>
+) -> Result<(), AllocError>
     requires { HoldsValue L.model shapes.now.sealed cell.now }
-    ensures written { IfOk result (λ now. (xs : List L) → bytes.new.items ++ rest_listed L.model (codes " dropped [") now xs
-        ≡ bytes.old.items ++ rest_listed L.model (codes " dropped [") some (stored_in shapes.now.sealed cell.now ++ xs)) }
-    ensures utf8 { OnOk result (IsUtf8 bytes.old.items → IsUtf8 bytes.new.items) }
+    ensures written { OnOk result (bytes.new.items ≡ bytes.old.items ++ leaves_text L.model (stored_in shapes.now.sealed cell.now)) }
+    ensures utf8 { OnOk result (IsUtf8 (leaves_text L.model (stored_in shapes.now.sealed cell.now))) }
 {
-    match leaf_at(shapes, cell.shape, PtrConst::new(&cell.block, 0)) {
-        None => Ok(some),
-        Some(leaf) => {
-            let label = if some { ", " } else { " dropped [" };
-            push_leaf(bytes, label, leaf)?;
-            Ok(true)
-        }
+    write_leaves(shapes, cell.shape, PtrConst::new(&cell.block, 0), bytes)?;
+    Ok(())
+}
+
+// Writes a label, the list without the comma and the space before its first leaf, and a bracket, if there is a leaf.
+fn push_list<L: Leaf>(bytes: &mut Vec<u8>, label: &str, list: &[u8]) -> Result<(), AllocError>
+    requires { IsUtf8 list.now }
+    ensures written { OnOk result ((xs : List L) → list.now ≡ leaves_text L.model xs → bytes.new.items ≡ bytes.old.items ++ listed L.model label.now xs) }
+    ensures utf8 { OnOk result ((xs : List L) → list.now ≡ leaves_text L.model xs → IsUtf8 bytes.old.items → IsUtf8 bytes.new.items) }
+{
+    if list.len() < 2 {
+        return Ok(());
     }
+    bytes.extend_from_slice(label.as_bytes())?;
+    bytes.extend_from_slice(&list[2..])?;
+    bytes.push(b']')?;
+    Ok(())
 }
 
 // Writes a text and the debug text of a leaf.

@@ -8,5 +8,5 @@ invariant-loop-i g l =
       rest : drop l.i l.cells.items ≡ drop l.i l.fn.cells.items;
       count : length l.cells.items ≡ length l.fn.cells.items;
       leaves : l.log.leaves ++ stored_in_all l.shapes.sealed (drop l.i l.fn.cells.items) ≡ l.fn.log.leaves ++ stored_in_all l.shapes.sealed l.fn.cells.items;
-      room : length l.fn.cells.items ≤ l.log.spare + l.i;
+      room : length (stored_in_all l.shapes.sealed (drop l.i l.fn.cells.items)) ≤ l.log.spare;
     }

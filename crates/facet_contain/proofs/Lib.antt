@@ -1,0 +1,4 @@
+pub mod HeldParts
+pub mod ContainerKinds
+pub mod ContainerParts
+mod MadeContainers

@@ -1,0 +1,13 @@
+mod AloneByStructure
+mod BlockLayouts
+mod EmptyRanges
+mod InlineParts
+mod ItemsByKind
+mod KeyLookups
+mod KeyOrder
+mod KnownPlaces
+mod Neighbours
+mod OrderedKeys
+mod PairLayouts
+mod ReadableNodes
+mod Rows
