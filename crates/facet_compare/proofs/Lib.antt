@@ -3,5 +3,6 @@ mod AnsweredByKind
 mod ComparedPlaces
 mod ComparisonLaws
 mod HashLaws
+mod KnownLeaves
 mod PlacesHashed
 mod TotalAnswers

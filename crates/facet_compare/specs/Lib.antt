@@ -1,3 +1,4 @@
 pub mod Hash
 pub mod HashedPlaces
+pub mod Leaves
 pub mod Walks

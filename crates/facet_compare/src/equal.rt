@@ -1,12 +1,16 @@
-ghost use Rattle.std.specs.Prelude.{◌≡◌, ◌<◌, length};
+ghost use Rattle.std.specs.Prelude.{◌≡◌, ◌<◌, IfSome, length, true};
+ghost use Rattle.facet_base.specs.declared.characteristic.Characteristic.TheVariants as trait;
 ghost use Rattle.facet_causes.specs.Causes.{IsWellFormed};
+ghost use Rattle.facet_compare.specs.Leaves.{IsOfLeaves};
 ghost use Rattle.facet_compare.specs.Walks.{equality_of_places, HaveSameShapes};
+ghost use Rattle.facet_registry.specs.Registry.{offers};
 ghost use Rattle.facet_trees.specs.Equal.{equality};
 ghost use Rattle.facet_trees.specs.Value.{Value};
 ghost use Rattle.facet_values.specs.Reading.{IsReadable, IsReadableWithin, Reads, value_at};
 ghost use Rattle.facet_walk.specs.Look.{AreReadable, place_of, places_of, pointed};
 
 use crate::answered::is_answered;
+use crate::leaves::leaves_among;
 use crate::look::see_value;
 use crate::ranks::rank_of;
 use facet_base::{Characteristic, ShapeId};
@@ -35,24 +39,33 @@ pub fn call_partial_eq<L: Leaf>(
     let _sealed = shapes.sealed();
     let a = Place { shape: s, at: a };
     let b = Place { shape: s, at: b };
-    equal_at(shapes, a, b, MAX_LEVELS)
+    equal_at(shapes, None, a, b, MAX_LEVELS)
 }
 
-// Whether the values at two places of one shape are equal.
+// Whether the values at two places of one shape are equal, without a look at the shape where it is the given one, whose
+// leaves have equality.
 #[cycle(equal)]
-fn equal_at<L: Leaf>(shapes: &Shapes<L>, a: Place<L>, b: Place<L>, levels: u32) -> Option<bool>
+fn equal_at<L: Leaf>(
+    shapes: &Shapes<L>,
+    leaves: Option<ShapeId>,
+    a: Place<L>,
+    b: Place<L>,
+    levels: u32,
+) -> Option<bool>
     requires well_formed { IsWellFormed L.model shapes.now.sealed }
     requires sealed { a.shape.0 < length shapes.now.sealed }
     requires first { IsReadableWithin L.model shapes.now.sealed levels (place_of a) }
     requires second { IsReadableWithin L.model shapes.now.sealed levels (place_of b) }
     requires same { a.shape ≡ b.shape }
+    requires leaves { IfSome leaves (λ known. IsOfLeaves shapes.now.sealed known.0) }
+    requires offered { IfSome leaves (λ known. offers shapes.now.sealed known.0 trait.PartialEq ≡ true) }
     ensures { result ≡ equality L.model shapes.now.sealed a.entry.shape.0
         (value_at shapes.now.sealed levels (place_of a.entry)) (value_at shapes.now.sealed levels (place_of b.entry)) }
 {
-    if !is_answered(shapes, a.shape, Characteristic::PartialEq) {
+    if !is_answered(shapes, leaves, a.shape, Characteristic::PartialEq) {
         return None;
     }
-    match (see_value(shapes, a), see_value(shapes, b)) {
+    match (see_value(shapes, leaves, a), see_value(shapes, leaves, b)) {
         (Seen::Leaf(x), Seen::Leaf(y)) => Some(x.same(y)),
         (Seen::Node(form, xs), Seen::Node(other, ys)) => {
             let ours = rank_of(shapes, a.shape, form);
@@ -80,8 +93,9 @@ fn equal_parts<L: Leaf>(shapes: &Shapes<L>, a: Parts<L>, b: Parts<L>, levels: u3
     requires long { length (places_of a) ≡ length (places_of b) }
     ensures { result ≡ equality_of_places L.model shapes.now.sealed levels (places_of a.entry) (places_of b.entry) }
 {
+    let leaves = leaves_among(shapes, a, Characteristic::PartialEq, levels);
     for i in 0..a.len() {
-        match equal_at(shapes, a.part(i), b.part(i), levels) {
+        match equal_at(shapes, leaves, a.part(i), b.part(i), levels) {
             Some(true) => {}
             Some(false) => return Some(false),
             None => return None,

@@ -6,6 +6,7 @@ mod equal;
 mod hash;
 /// The laws of equality, of the orders and of hashes.
 pub mod laws;
+mod leaves;
 mod look;
 mod order;
 mod ranks;

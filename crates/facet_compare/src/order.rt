@@ -1,13 +1,16 @@
-ghost use Rattle.std.specs.Prelude.{◌≡◌, ◌<◌, Some, length, option_map};
+ghost use Rattle.std.specs.Prelude.{◌≡◌, ◌<◌, IfSome, Some, length, option_map, true};
 ghost use Rattle.facet_causes.specs.Causes.{IsWellFormed};
+ghost use Rattle.facet_compare.specs.Leaves.{IsOfLeaves};
 ghost use Rattle.facet_compare.specs.Walks.{HaveSameShapes, ordering_of_places, which_of};
 ghost use Rattle.facet_leaf.specs.LeafLaws.{Have};
+ghost use Rattle.facet_registry.specs.Registry.{offers};
 ghost use Rattle.facet_trees.specs.Order.{by_partial, by_total, capability_of, order_of_leaves, ordering};
 ghost use Rattle.facet_trees.specs.Value.{Value};
 ghost use Rattle.facet_values.specs.Reading.{IsReadable, IsReadableWithin, Reads, value_at};
 ghost use Rattle.facet_walk.specs.Look.{AreReadable, place_of, places_of, pointed};
 
 use crate::answered::is_answered;
+use crate::leaves::leaves_among;
 use crate::look::see_value;
 use crate::ranks::rank_of;
 use facet_base::{Characteristic, ShapeId};
@@ -38,7 +41,7 @@ pub fn call_partial_cmp<L: Leaf>(
     let _sealed = shapes.sealed();
     let a = Place { shape: s, at: a };
     let b = Place { shape: s, at: b };
-    order_at(shapes, Which::Partial, a, b, MAX_LEVELS)
+    order_at(shapes, Which::Partial, None, a, b, MAX_LEVELS)
 }
 
 /// How the values at two places are ordered by the total order, and None where their shape, or that of a part that is
@@ -61,7 +64,7 @@ pub fn call_cmp<L: Leaf>(
     let _sealed = shapes.sealed();
     let a = Place { shape: s, at: a };
     let b = Place { shape: s, at: b };
-    match order_at(shapes, Which::Total, a, b, MAX_LEVELS) {
+    match order_at(shapes, Which::Total, None, a, b, MAX_LEVELS) {
         Some(Some(order)) => Some(order),
         Some(None) => unreachable!(),
         None => None,
@@ -96,11 +99,13 @@ fn order_of_leaves<L: Leaf>(which: Which, x: &L, y: &L) -> Option<Ordering>
     }
 }
 
-// How the values at two places of one shape are ordered.
+// How the values at two places of one shape are ordered, without a look at the shape where it is the given one, whose leaves
+// have the order.
 #[cycle(order)]
 fn order_at<L: Leaf>(
     shapes: &Shapes<L>,
     which: Which,
+    leaves: Option<ShapeId>,
     a: Place<L>,
     b: Place<L>,
     levels: u32,
@@ -110,13 +115,15 @@ fn order_at<L: Leaf>(
     requires first { IsReadableWithin L.model shapes.now.sealed levels (place_of a) }
     requires second { IsReadableWithin L.model shapes.now.sealed levels (place_of b) }
     requires same { a.shape ≡ b.shape }
+    requires leaves { IfSome leaves (λ known. IsOfLeaves shapes.now.sealed known.0) }
+    requires offered { IfSome leaves (λ known. offers shapes.now.sealed known.0 (capability_of (which_of which)) ≡ true) }
     ensures { result ≡ ordering L.model shapes.now.sealed (which_of which) a.entry.shape.0
         (value_at shapes.now.sealed levels (place_of a.entry)) (value_at shapes.now.sealed levels (place_of b.entry)) }
 {
-    if !is_answered(shapes, a.shape, capability_of(which)) {
+    if !is_answered(shapes, leaves, a.shape, capability_of(which)) {
         return None;
     }
-    match (see_value(shapes, a), see_value(shapes, b)) {
+    match (see_value(shapes, leaves, a), see_value(shapes, leaves, b)) {
         (Seen::Leaf(x), Seen::Leaf(y)) => Some(order_of_leaves(which, x, y)),
         (Seen::Node(form, xs), Seen::Node(other, ys)) => {
             let ours = rank_of(shapes, a.shape, form);
@@ -147,12 +154,13 @@ fn order_parts<L: Leaf>(
     requires same { HaveSameShapes (places_of a) (places_of b) }
     ensures { result ≡ ordering_of_places L.model shapes.now.sealed (which_of which) levels (places_of a.entry) (places_of b.entry) }
 {
+    let leaves = leaves_among(shapes, a, capability_of(which), levels);
     let others = b.len();
     for i in 0..a.len() {
         if others <= i {
             return Some(Some(Ordering::Greater));
         }
-        match order_at(shapes, which, a.part(i), b.part(i), levels) {
+        match order_at(shapes, which, leaves, a.part(i), b.part(i), levels) {
             Some(Some(Ordering::Equal)) => {}
             Some(Some(Ordering::Less)) => return Some(Some(Ordering::Less)),
             Some(Some(Ordering::Greater)) => return Some(Some(Ordering::Greater)),

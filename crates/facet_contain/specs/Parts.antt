@@ -1,10 +1,10 @@
 -- The parts of the value that lies in a container, and pointers to where they lie.
-use Rattle.std.specs.Prelude.{ℕ, suc, ◌<◌, Bool, true, false, List, [], Option, None, Some, length, slice_get, unwrap_or}
+use Rattle.std.specs.Prelude.{ℕ, suc, ◌<◌, Bool, true, false, List, [], ◌∷◌, Option, None, Some, length, slice_get, unwrap_or}
 use Rattle.facet_block.specs.declared.ptr_const.PtrConst.{PtrConst}
 use Rattle.facet_leaf.specs.LeafModel.{LeafModel}
 use Rattle.facet_shape.specs.declared.shape.Shape.{Shape}
 use Rattle.facet_trees.specs.Structure.{part_shapes, structure_at}
-use Rattle.facet_trees.specs.Value.{Value, leaf, listed, node}
+use Rattle.facet_trees.specs.Value.{Value, Values, leaf, listed, more, node, none}
 use Rattle.facet_trees.specs.declared.form.Form.{Form}
 use Rattle.facet_trees.specs.declared.form.Form.TheVariants as form
 use Rattle.facet_values.specs.Place.{place_in}
@@ -15,6 +15,11 @@ module _ {L : Type 0} where
   abbrev pub parts_of : Value L → List (Value L)
   parts_of (leaf x) = []
   parts_of (node form parts) = listed parts
+
+  -- a list of values as parts
+  abbrev pub values_of : List (Value L) → Values L
+  values_of [] = none
+  values_of (v ∷ vs) = more v (values_of vs)
 
   -- an option that holds a value
   abbrev pub is_present : Value L → Bool

@@ -5,14 +5,16 @@
 mod boxed_slices;
 mod boxes;
 mod definitions;
+/// Writes to a place that stays a place to be filled.
+pub mod destinations;
 mod enums;
 /// The shapes of the parts of containers.
 pub mod laws;
 mod lists;
 mod maps;
 mod options;
-mod parts;
-mod puts;
+/// Where the parts of containers begin.
+pub mod parts;
 mod results;
 mod sets;
 

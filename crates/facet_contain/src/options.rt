@@ -11,8 +11,8 @@ ghost use Rattle.facet_values.specs.Reading.{IsReadable, Reads};
 ghost use Rattle.facet_walk.specs.Look.{pointed};
 
 use crate::definitions::option_part;
+use crate::destinations::{put_tag, put_tag_and_move};
 use crate::parts::behind_tag;
-use crate::puts::{put_tag, put_tag_and_move};
 use facet_base::ShapeId;
 use facet_block::{PtrConst, PtrMut, PtrUninit};
 use facet_leaf::Leaf;

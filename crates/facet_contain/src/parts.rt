@@ -12,7 +12,7 @@ use facet_leaf::Leaf;
 use facet_registry::Shapes;
 
 /// The start of block `i` of a sequence, and None exactly at or above the number of filled blocks.
-pub(crate) fn start_in<L>(blocks: &Seq<L>, i: usize) -> Option<PtrConst<'_, L>>
+pub fn start_in<L>(blocks: &Seq<L>, i: usize) -> Option<PtrConst<'_, L>>
     ensures { option_map (λ q. place_in 0 q.block.now q.offset) result ≡ option_map (start_of 0) (slice_get (filled_of blocks.now) i) }
 {
     match blocks.get(i) {

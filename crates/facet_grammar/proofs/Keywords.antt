@@ -12,6 +12,7 @@ use Rattle.facet_grammar.specs.Forms.{behind_keyword}
 -- a keyword is one piece
 pub word_of_keyword : (keyword : Keyword) → IsWord (text_of keyword)
 word_of_keyword keyword.Put = word_tested _ refl
+word_of_keyword keyword.Default = word_tested _ refl
 word_of_keyword keyword.Seal = word_tested _ refl
 word_of_keyword keyword.Shape = word_tested _ refl
 word_of_keyword keyword.Option = word_tested _ refl

@@ -6,7 +6,7 @@ use Rattle.facet_grammar.specs.declared.token.Token.TheVariants.{Name, Reference
 use Rattle.facet_grammar.specs.declared.row.Row.{Row}
 use Rattle.facet_grammar.specs.declared.row.Row.TheVariants as row
 use Rattle.facet_grammar.specs.declared.command.Command.{Command}
-use Rattle.facet_grammar.specs.declared.command.Command.TheVariants.{Shape, Seal, Put}
+use Rattle.facet_grammar.specs.declared.command.Command.TheVariants.{Shape, Seal, Put, Default}
 use Rattle.facet_grammar.specs.Rows.{rows, form_of, command_from, row_of, tokens_of}
 use Rattle.facet_grammar.specs.Forms.{kinds_are}
 use Rattle.facet_grammar.proofs.Declarations.{declaration_has_tokens, is_listed_declaration}
@@ -29,6 +29,7 @@ known_command known command e =
 pub command_has_tokens : (r : Row) (tokens : List Token) (command : Command) → command_from r tokens ≡ Some command → IsOf r tokens command
 command_has_tokens row.Put (Name name ∷ Reference shape ∷ Rest text ∷ []) = known_command (Put name shape text)
 command_has_tokens row.Seal [] = known_command Seal
+command_has_tokens row.Default (Name name ∷ Reference shape ∷ []) = known_command (Default name shape)
 command_has_tokens (row.Shape declaration) tokens = λ command e.
     let found = map_some Shape (declaration_from declaration tokens) command e in
     let known = declaration_has_tokens declaration tokens found.0 found.1 in
@@ -47,10 +48,11 @@ pub is_listed : (command : Command) → IsListed command
 is_listed (Shape declaration) =
     let listed = is_listed_declaration declaration in
     record {
-      index = suc (suc listed.index);
+      index = suc (suc (suc listed.index));
       listed = slice_get-map row.Shape declaration_rows listed.index ∙ ap (option_map row.Shape) listed.listed;
       back = ap (option_map Shape) listed.back;
       kinds = listed.kinds;
     }
 is_listed Seal = record { index = 1; listed = refl; back = refl; kinds = refl }
+is_listed (Default _ _) = record { index = 2; listed = refl; back = refl; kinds = refl }
 is_listed (Put _ _ _) = record { index = 0; listed = refl; back = refl; kinds = refl }

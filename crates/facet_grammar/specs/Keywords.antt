@@ -6,6 +6,7 @@ use Rattle.facet_grammar.specs.declared.keyword.Keyword.TheVariants as keyword
 -- the bytes of a keyword
 abbrev pub text_of : Keyword → List ℕ
 text_of keyword.Put = codes "put"
+text_of keyword.Default = codes "default"
 text_of keyword.Seal = codes "seal"
 text_of keyword.Shape = codes "shape"
 text_of keyword.Option = codes "option"

@@ -10,4 +10,6 @@ pub enum Command {
     Seal,
     /// `put NAME REF TEXT`: the new cell's name, its shape, and the text of its value.
     Put(Text, ShapeId, Text),
+    /// `default NAME REF`: the new cell's name and its shape.
+    Default(Text, ShapeId),
 }

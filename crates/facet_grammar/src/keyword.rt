@@ -6,6 +6,8 @@ ghost use Rattle.facet_grammar.specs.Keywords.{text_of};
 pub enum Keyword {
     /// `put`
     Put,
+    /// `default`
+    Default,
     /// `seal`
     Seal,
     /// `shape`
@@ -51,6 +53,7 @@ impl Keyword {
     {
         match self {
             Keyword::Put => "put",
+            Keyword::Default => "default",
             Keyword::Seal => "seal",
             Keyword::Shape => "shape",
             Keyword::Option => "option",

@@ -19,12 +19,15 @@ pub enum Row {
     Seal,
     /// `put NAME REF TEXT`
     Put,
+    /// `default NAME REF`
+    Default,
 }
 
 /// The rows, in the order in which they are tried.
-pub const ROWS: [Row; 18] = [
+pub const ROWS: [Row; 19] = [
     Row::Put,
     Row::Seal,
+    Row::Default,
     Row::Shape(DeclRow::OptionOf),
     Row::Shape(DeclRow::ListOf),
     Row::Shape(DeclRow::SetOf),
@@ -52,6 +55,7 @@ impl Row {
             Row::Shape(row) => row.form(),
             Row::Seal => &[Part::Keyword(Keyword::Seal)],
             Row::Put => &[Part::Keyword(Keyword::Put), NAME, REF, TEXT],
+            Row::Default => &[Part::Keyword(Keyword::Default), NAME, REF],
         }
     }
 }
@@ -66,6 +70,7 @@ pub fn command_from(row: Row, mut tokens: VecDeque<Token>) -> Command
         Row::Shape(row) => Command::Shape(declaration_from(row, tokens)),
         Row::Seal => Command::Seal,
         Row::Put => put_from(&mut tokens),
+        Row::Default => default_from(&mut tokens),
     }
 }
 
@@ -76,4 +81,13 @@ fn put_from(tokens: &mut VecDeque<Token>) -> Command
     ensures tokens { tokens_of result ≡ tokens.old.items }
 {
     Command::Put(next_name(tokens), next_reference(tokens), next_rest(tokens))
+}
+
+// The `default` that has these tokens.
+fn default_from(tokens: &mut VecDeque<Token>) -> Command
+    requires { kinds_are (form_of Row.Default) tokens.old.items ≡ true }
+    ensures row { row_of result ≡ Row.Default }
+    ensures tokens { tokens_of result ≡ tokens.old.items }
+{
+    Command::Default(next_name(tokens), next_reference(tokens))
 }

@@ -1,5 +1,5 @@
 //! The operations on values whose type is known only at run time: comparing, hashing, reading, making and dropping them,
-//! and what containers hold.
+//! what containers hold, going over it, and lists that are changed.
 #![tactic(auto)]
 
 pub use facet_compare::{call_cmp, call_hash, call_partial_cmp, call_partial_eq};
@@ -8,6 +8,8 @@ pub use facet_contain::{
     list_capacity, list_get, list_len, map_len, set_len_of, slice_get, slice_len, variant_of,
 };
 pub use facet_drop::{call_drop_in_place, make_room_for, write_leaves};
+pub use facet_iterate::{ListIter, MapIter, list_iter, map_iter, set_iter};
+pub use facet_lists::{from_raw_parts, list_pop, list_push, list_reserve, list_swap, set_len};
 pub use facet_make::{call_clone_into, call_default_in_place};
 pub use facet_readable::reads_as;
 pub use facet_walk::{depth, leaf_count};

@@ -1,9 +1,11 @@
 mod AnswerLines
 mod AnswerTexts
 pub mod BalanceLemmas
+mod DefaultLemmas
 mod DroppingCells
 mod InterpreterLaws
 mod ListedLeaves
+mod MadeLemmas
 mod PutLemmas
 mod SealLemmas
 mod ShapeLemmas

@@ -1,6 +1,5 @@
 -- The list of leaves of an answer, made of the text of the leaves.
-use Rattle.std.proofs.Common.{◌≡◌, ℕ, ◌<◌, ◌≤◌, List, [], ◌∷◌, ◌++◌, drop, length, codes, refl, sym, ap, ◌∙◌, subst, arith, append_assoc}
-use Rattle.std.proofs.lemmas.List.{append-nil}
+use Rattle.std.proofs.Common.{◌≡◌, ℕ, ◌<◌, ◌≤◌, List, [], ◌∷◌, ◌++◌, drop, length, length-append, codes, refl, sym, ap, ◌∙◌, subst, arith, append_assoc}
 use Rattle.std.proofs.lemmas.Str.{IsUtf8-past_char, encode_ascii}
 use Rattle.std.specs.Str.{IsUtf8}
 use Rattle.facet_drop.specs.LeavesText.{leaves_text}
@@ -12,6 +11,17 @@ module _ {L : Type 0} (m : LeafModel L) where
   more_text : (xs : List L) → leaves_text m xs ++ 93 ∷ [] ≡ more_listed m xs
   more_text [] = refl
   more_text (x ∷ xs) = append_assoc (codes ", " ++ m.debug x) (leaves_text m xs) (93 ∷ []) ∙ ap (λ t. codes ", " ++ m.debug x ++ t) (more_text xs)
+
+  fewer_more : (xs : List L) → length xs < length (more_listed m xs)
+  fewer_more [] = omega arith
+  fewer_more (x ∷ xs) = let rest = fewer_more xs in omega (arith, length-append (codes ", " ++ m.debug x) (more_listed m xs), length-append (codes ", ") (m.debug x))
+
+  -- a list has at least a byte for each leaf
+  pub fewer_listed : (label : List ℕ) (xs : List L) → length xs ≤ length (listed m label xs)
+  fewer_listed label [] = omega arith
+  fewer_listed label (x ∷ xs) =
+      let rest = fewer_more xs in
+      omega (arith, length-append (label ++ m.debug x) (more_listed m xs))
 
   -- where there is a leaf, the list is the label, the text without the comma and the space at its start, and a bracket
   pub listed_text : (label list : List ℕ) (xs : List L) → list ≡ leaves_text m xs → 2 ≤ length list → label ++ drop 2 list ++ 93 ∷ [] ≡ listed m label xs

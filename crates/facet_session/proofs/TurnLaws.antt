@@ -26,7 +26,7 @@ no_newline (b ∷ bytes) all =
 pub one_line : (bytes : List ℕ) → list_all (λ b. not (nat_eq b 10)) bytes ≡ true → IsOneLine bytes
 one_line bytes all = All-from_recursion _ _ (no_newline bytes all)
 
-words_one_line : (refusal : Refusal) → IsOneLine (words_of refusal)
+pub words_one_line : (refusal : Refusal) → IsOneLine (words_of refusal)
 words_one_line Syntax = one_line (words_of Syntax) refl
 words_one_line NoSuchShape = one_line (words_of NoSuchShape) refl
 words_one_line Taken = one_line (words_of Taken) refl

@@ -3,11 +3,12 @@ use Rattle.std.specs.Prelude.{ℕ, List, [], Option, None, Some, codes, ⊤}
 use Rattle.facet_leaf.specs.LeafModel.{LeafModel}
 use Rattle.facet_grammar.specs.Grammar.{command_of}
 use Rattle.facet_declare.specs.Outcome.{HasPartsOfTuple}
+use Rattle.facet_session.specs.commands.Default.{default}
 use Rattle.facet_session.specs.commands.Put.{put}
 use Rattle.facet_session.specs.commands.Seal.{seal}
 use Rattle.facet_session.specs.commands.Shape.{shape}
 use Rattle.facet_grammar.specs.declared.command.Command.{Command}
-use Rattle.facet_grammar.specs.declared.command.Command.TheVariants.{Put, Seal, Shape}
+use Rattle.facet_grammar.specs.declared.command.Command.TheVariants.{Default, Put, Seal, Shape}
 use Rattle.facet_session.specs.declared.refusal.Refusal.TheVariants.{Syntax}
 pub use Rattle.facet_session.specs.State.{Entry, State, first_state, leaves_of_entries}
 pub use Rattle.facet_session.specs.Turn.{Turn, refused, text_of}
@@ -18,6 +19,7 @@ turn_of m state None = refused state Syntax
 turn_of m state (Some (Shape decl)) = shape m state decl
 turn_of m state (Some Seal) = seal m state
 turn_of m state (Some (Put name s text)) = put m state name s.0 text
+turn_of m state (Some (Default name s)) = default m state name s.0
 
 -- where it declares a tuple, that has 1 to 12 parts
 abbrev pub HasParts : Option Command → Type 0

@@ -1,5 +1,6 @@
 pub mod Cell
 pub mod Interpreter
+pub mod Made
 pub mod Refusal
 pub mod Script
 pub mod Session

@@ -1,3 +1,4 @@
+pub mod Default
 pub mod Put
 pub mod Seal
 pub mod Shape

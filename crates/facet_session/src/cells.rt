@@ -38,8 +38,8 @@ fn leaf_count_of_cells<L: Leaf>(shapes: &Shapes<L>, cells: &[Cell<L>]) -> usize
     total
 }
 
-// The number of leaves of a cell's value, or the greatest usize where there are that many or more.
-fn leaf_count_of<L: Leaf>(shapes: &Shapes<L>, cell: &Cell<L>) -> usize
+/// The number of leaves of a cell's value, or the greatest usize where there are that many or more.
+pub fn leaf_count_of<L: Leaf>(shapes: &Shapes<L>, cell: &Cell<L>) -> usize
     requires { HoldsValue L.model shapes.now.sealed cell.now }
     ensures { result ≡ min (length (stored_in shapes.now.sealed cell.now)) usize.MAX }
 {

@@ -1,3 +1,4 @@
+pub mod default;
 pub mod put;
 pub mod seal;
 pub mod shape;

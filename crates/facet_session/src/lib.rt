@@ -7,6 +7,7 @@ mod commands;
 mod conditions;
 /// The laws of answers and of the balance of leaves.
 pub mod laws;
+mod making;
 mod refusal;
 mod session;
 mod stepping;

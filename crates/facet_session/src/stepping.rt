@@ -5,6 +5,7 @@ ghost use Rattle.facet_session.specs.Session.{Shows, IsReady, CarriesOut, KeepsC
 ghost use Rattle.facet_session.specs.State.{State};
 
 use crate::cells::{drop_values, make_room};
+use crate::commands::default::default;
 use crate::commands::put::put;
 use crate::commands::seal::seal;
 use crate::commands::shape::shape;
@@ -78,5 +79,6 @@ fn carry_out<L: Leaf>(
         Some(Command::Shape(decl)) => shape(alloc, session, &decl),
         Some(Command::Seal) => seal(alloc, session),
         Some(Command::Put(name, shape, text)) => put(alloc, session, name, shape, &text),
+        Some(Command::Default(name, shape)) => default(alloc, session, name, shape),
     }
 }

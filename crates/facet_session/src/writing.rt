@@ -51,6 +51,47 @@ pub fn text_of_end<L: Leaf>(
     Ok(Text::from_utf8(bytes))
 }
 
+/// The text of an answer to a cell whose value was made: it names the leaves.
+pub fn text_of_made_value<L: Leaf>(
+    alloc: Global,
+    shapes: &Shapes<L>,
+    cell: &Cell<L>,
+) -> Result<Text, AllocError>
+    requires { HoldsValue L.model shapes.now.sealed cell.now }
+    ensures { IfOk result (λ text. text ≡ codes "ok" ++ listed L.model (codes " made [") (stored_in shapes.now.sealed cell.now)) }
+{
+    let mut list = Vec::new(alloc);
+    push_stored(&mut list, shapes, cell)?;
+    let mut bytes = Vec::new(alloc);
+    bytes.extend_from_slice(b"ok")?;
+    push_list::<L>(&mut bytes, " made [", list.as_slice())?;
+    Ok(Text::from_utf8(bytes))
+}
+
+/// The text of an answer to leaves that were made and taken back: it names them twice.
+pub fn text_of_taken_back<L: Leaf>(alloc: Global, leaves: &[L]) -> Result<Text, AllocError>
+    ensures { IfOk result (λ text. text ≡ codes "unsupported" ++ listed L.model (codes " made [") leaves.now ++ listed L.model (codes " dropped [") leaves.now) }
+{
+    let list = text_of_leaves(alloc, leaves)?;
+    let mut bytes = Vec::new(alloc);
+    bytes.extend_from_slice(b"unsupported")?;
+    push_list::<L>(&mut bytes, " made [", list.as_slice())?;
+    push_list::<L>(&mut bytes, " dropped [", list.as_slice())?;
+    Ok(Text::from_utf8(bytes))
+}
+
+// The debug texts of leaves, each behind a comma and a space.
+fn text_of_leaves<L: Leaf>(alloc: Global, leaves: &[L]) -> Result<Vec<u8>, AllocError>
+    ensures written { IfOk result (λ bytes. bytes.items ≡ leaves_text L.model leaves.now) }
+    ensures utf8 { IfOk result (λ bytes. IsUtf8 bytes.items) }
+{
+    let mut bytes = Vec::new(alloc);
+    for leaf in leaves {
+        push_leaf(&mut bytes, ", ", leaf)?;
+    }
+    Ok(bytes)
+}
+
 // Writes the leaves of a cell, each behind a comma and a space.
 fn push_stored<L: Leaf>(
     bytes: &mut Vec<u8>,

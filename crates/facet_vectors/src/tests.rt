@@ -1,11 +1,13 @@
 ghost use Rattle.std.specs.Prelude.{◌<◌};
 
 mod declarations;
+mod defaults;
 mod rows;
 mod seal;
 
 use crate::fault::MainFault;
 use declarations::{DECLARATIONS, NEAR_DECLARATIONS};
+use defaults::DEFAULTS;
 use facet_base::{Many, Text, Write};
 use facet_leaf::Scalar;
 use facet_script::{Report, Session, Status, run};
@@ -129,8 +131,14 @@ fn declarations_are_drafted_or_refused(rt: HostRuntime) -> Result<(), Fail> {
 }
 
 #[test]
+fn defaults_are_made_or_taken_back(rt: HostRuntime) -> Result<(), Fail> {
+    rows_are_answered(&rt, rt.alloc(), DEFAULTS, 4096)
+}
+
+#[test]
 fn bytes_come_and_go_one_by_one(rt: HostRuntime) -> Result<(), Fail> {
-    rows_are_answered(&rt, rt.alloc(), ROWS, 1)
+    rows_are_answered(&rt, rt.alloc(), ROWS, 1)?;
+    rows_are_answered(&rt, rt.alloc(), DEFAULTS, 1)
 }
 
 #[test]

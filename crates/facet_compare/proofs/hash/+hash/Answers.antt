@@ -9,59 +9,59 @@ use Rattle.facet_compare.specs.Hash.{HashWrites, form_writes}
 use Rattle.facet_compare.specs.HashedPlaces.{hash_writes_of_places}
 use Rattle.facet_compare.proofs.hash.+hash.Goals as goal
 
-pub hash_at-returns-then-not-offers-clause-writes : goal.hash_at-returns-then-not-offers-clause-writes
-hash_at-returns-then-not-offers-clause-writes g t c =
+pub hash_at-returns-then-not-has_hash-clause-writes : goal.hash_at-returns-then-not-has_hash-clause-writes
+hash_at-returns-then-not-has_hash-clause-writes g t c =
     let shapes = c.args.shapes.now.sealed in
-    let none = unhashed g.L.Leaf.model shapes c.args.place.shape.0 (value_at shapes c.args.levels (place_of c.args.place)) (sym (c.if-not-offers.ensures.sealed c.requires.sealed)) in
+    let none = unhashed g.L.Leaf.model shapes c.args.place.shape.0 (value_at shapes c.args.levels (place_of c.args.place)) (sym c.if-not-has_hash.ensures) in
     sym (ap (λ (w : HashWrites). fed_all g.H.HashSink.fed c.args.hasher.now w.writes) none)
 
-pub hash_at-returns-then-not-offers-clause-finished : goal.hash_at-returns-then-not-offers-clause-finished
-hash_at-returns-then-not-offers-clause-finished g t c =
+pub hash_at-returns-then-not-has_hash-clause-finished : goal.hash_at-returns-then-not-has_hash-clause-finished
+hash_at-returns-then-not-has_hash-clause-finished g t c =
     let shapes = c.args.shapes.now.sealed in
-    let none = unhashed g.L.Leaf.model shapes c.args.place.shape.0 (value_at shapes c.args.levels (place_of c.args.place)) (sym (c.if-not-offers.ensures.sealed c.requires.sealed)) in
+    let none = unhashed g.L.Leaf.model shapes c.args.place.shape.0 (value_at shapes c.args.levels (place_of c.args.place)) (sym c.if-not-has_hash.ensures) in
     sym (ap (λ (w : HashWrites). w.finished) none)
 
 pub hash_at-hash_into-requires : goal.hash_at-hash_into-requires
 hash_at-hash_into-requires g t c =
-    let seen = rw c.in-Some-Leaf.field-0-is at c.in-Some-Leaf.ensures in
-    leaf_can_hash c.requires.well_formed c.requires.readable (c.if-not-offers.ensures.sealed c.requires.sealed) c.in-Some-Leaf.leaf.now seen
+    let seen = c.in-Leaf.ensures in
+    leaf_can_hash c.requires.well_formed c.requires.readable (c.if-not-has_hash.ensures) c.in-Leaf.leaf.now seen
 
 pub hash_at-hash_parts-requires : goal.hash_at-hash_parts-requires
 hash_at-hash_parts-requires g t c κs within =
-    let seen = rw c.in-Some-Node.field-0-is at c.in-Some-Node.ensures in (
+    let seen = c.in-Node.ensures in (
       omega (arith, c.decreases, levels_positive c.requires.readable),
       (within.0, (within.1, (c.requires.well_formed, parts_seen c.requires.readable c.requires.well_formed c.requires.sealed seen))),
     )
 
-pub hash_at-returns-in-Some-Leaf-clause-writes : goal.hash_at-returns-in-Some-Leaf-clause-writes
-hash_at-returns-in-Some-Leaf-clause-writes g t c =
-    let seen = rw c.in-Some-Leaf.field-0-is at c.in-Some-Leaf.ensures in
-    let all = leaf_hashed c.requires.well_formed c.requires.readable (c.if-not-offers.ensures.sealed c.requires.sealed) c.in-Some-Leaf.leaf.now seen in
+pub hash_at-returns-in-Leaf-clause-writes : goal.hash_at-returns-in-Leaf-clause-writes
+hash_at-returns-in-Leaf-clause-writes g t c =
+    let seen = c.in-Leaf.ensures in
+    let all = leaf_hashed c.requires.well_formed c.requires.readable (c.if-not-has_hash.ensures) c.in-Leaf.leaf.now seen in
     c.hash_into.ensures ∙ sym (ap (λ (w : HashWrites). fed_all g.H.HashSink.fed c.args.hasher.now w.writes) all)
 
-pub hash_at-returns-in-Some-Leaf-clause-finished : goal.hash_at-returns-in-Some-Leaf-clause-finished
-hash_at-returns-in-Some-Leaf-clause-finished g t c =
-    let seen = rw c.in-Some-Leaf.field-0-is at c.in-Some-Leaf.ensures in
-    let all = leaf_hashed c.requires.well_formed c.requires.readable (c.if-not-offers.ensures.sealed c.requires.sealed) c.in-Some-Leaf.leaf.now seen in
+pub hash_at-returns-in-Leaf-clause-finished : goal.hash_at-returns-in-Leaf-clause-finished
+hash_at-returns-in-Leaf-clause-finished g t c =
+    let seen = c.in-Leaf.ensures in
+    let all = leaf_hashed c.requires.well_formed c.requires.readable (c.if-not-has_hash.ensures) c.in-Leaf.leaf.now seen in
     sym (ap (λ (w : HashWrites). w.finished) all)
 
-pub hash_at-returns-in-Some-Node-clause-writes : goal.hash_at-returns-in-Some-Node-clause-writes
-hash_at-returns-in-Some-Node-clause-writes g t c =
+pub hash_at-returns-in-Node-clause-writes : goal.hash_at-returns-in-Node-clause-writes
+hash_at-returns-in-Node-clause-writes g t c =
     let shapes = c.args.shapes.now.sealed in
     let fed = g.H.HashSink.fed in
-    let seen = rw c.in-Some-Node.field-0-is at c.in-Some-Node.ensures in
-    let places = places_of c.in-Some-Node.parts in
+    let seen = c.in-Node.ensures in
+    let places = places_of c.in-Node.parts in
     let parts = hash_writes_of_places g.L.Leaf.model shapes (c.args.levels - 1) places in
-    let all = node_hashed c.requires.well_formed c.requires.readable (c.if-not-offers.ensures.sealed c.requires.sealed) c.in-Some-Node.form places seen in
+    let all = node_hashed c.requires.well_formed c.requires.readable (c.if-not-has_hash.ensures) c.in-Node.form places seen in
     c.hash_parts.ensures.writes
     ∙ ap (λ state. fed_all fed state parts.writes) c.write_form.ensures
-    ∙ fed_then fed c.args.hasher.now (form_writes g.L.Leaf.model shapes c.args.place.shape.0 c.in-Some-Node.form) parts
+    ∙ fed_then fed c.args.hasher.now (form_writes g.L.Leaf.model shapes c.args.place.shape.0 c.in-Node.form) parts
     ∙ sym (ap (λ (w : HashWrites). fed_all fed c.args.hasher.now w.writes) all)
 
-pub hash_at-returns-in-Some-Node-clause-finished : goal.hash_at-returns-in-Some-Node-clause-finished
-hash_at-returns-in-Some-Node-clause-finished g t c =
-    let seen = rw c.in-Some-Node.field-0-is at c.in-Some-Node.ensures in
-    let all = node_hashed c.requires.well_formed c.requires.readable (c.if-not-offers.ensures.sealed c.requires.sealed) c.in-Some-Node.form (places_of c.in-Some-Node.parts) seen in
+pub hash_at-returns-in-Node-clause-finished : goal.hash_at-returns-in-Node-clause-finished
+hash_at-returns-in-Node-clause-finished g t c =
+    let seen = c.in-Node.ensures in
+    let all = node_hashed c.requires.well_formed c.requires.readable (c.if-not-has_hash.ensures) c.in-Node.form (places_of c.in-Node.parts) seen in
     c.hash_parts.ensures.finished ∙ sym (ap (λ (w : HashWrites). w.finished) all)
 
 pub hash_parts-returns-then-not-hash_at-clause-writes : goal.hash_parts-returns-then-not-hash_at-clause-writes

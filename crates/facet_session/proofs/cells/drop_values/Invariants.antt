@@ -1,4 +1,4 @@
-use Rattle.std.proofs.Common.{◌≡◌, ◌+◌, ◌≤◌, ◌++◌, length, drop}
+use Rattle.std.proofs.Common.{◌≡◌, ◌≤◌, ◌++◌, length, drop}
 use Rattle.facet_session.specs.Cell.{stored_in_all}
 use Rattle.facet_session.proofs.cells.drop_values.Given as goal
 

@@ -1,4 +1,4 @@
-use Rattle.std.proofs.Common.{◌≡◌, [], ◌∷◌, ◌++◌, ◌+◌, ◌∙◌, ap, sym, drop, length, length-append, min, arith}
+use Rattle.std.proofs.Common.{◌≡◌, [], ◌∷◌, ◌+◌, ◌∙◌, ap, sym, drop, length, length-append, arith}
 use Rattle.std.proofs.lemmas.List.{drop_all, drop_more}
 use Rattle.facet_session.specs.Cell.{stored_in, stored_in_all}
 use Rattle.facet_session.proofs.cells.leaf_count_of_cells.Goals as goal

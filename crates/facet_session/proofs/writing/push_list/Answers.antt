@@ -3,7 +3,7 @@ use Rattle.std.proofs.lemmas.List.{length-drop, take_all}
 use Rattle.std.proofs.lemmas.Str.{IsUtf8-append}
 use Rattle.std.specs.Str.{IsUtf8}
 use Rattle.facet_session.proofs.AnswerTexts.{bracket_utf8}
-use Rattle.facet_session.proofs.ListedLeaves.{behind_separator, listed_text, nothing_listed}
+use Rattle.facet_session.proofs.ListedLeaves.{behind_separator, listed_text}
 use Rattle.facet_session.proofs.writing.push_list.Goals as goal
 
 pub returns-clause-written : goal.returns-clause-written

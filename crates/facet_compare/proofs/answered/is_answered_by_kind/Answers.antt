@@ -4,7 +4,7 @@ use Rattle.std.specs.Option.{option_to_list}
 use Rattle.facet_registry.specs.Registry.{offers}
 use Rattle.facet_walk.proofs.SeenKinds.{elements_stay}
 use Rattle.facet_compare.proofs.AnsweredByKind.{always_answered, kind_answered, list_answered, list_known, never_answered, slice_answered, slice_known}
-use Rattle.facet_compare.proofs.answered.is_answered.Goals as goal
+use Rattle.facet_compare.proofs.answered.is_answered_by_kind.Goals as goal
 
 pub element_offers-requires : goal.element_offers-requires
 element_offers-requires g c =

@@ -1,0 +1,4 @@
+pub mod ElementLists
+pub mod ListChanges
+pub mod ChangedLists
+pub mod FilledBlocks
