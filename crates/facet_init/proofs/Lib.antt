@@ -1,0 +1,3 @@
+mod BlockSizes
+mod MadeSequences
+mod Tags
