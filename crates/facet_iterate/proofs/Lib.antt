@@ -1,3 +1,3 @@
 mod Ends
-mod ReadStarts
+pub mod ReadStarts
 mod TurnLaws

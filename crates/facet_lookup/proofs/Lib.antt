@@ -1,0 +1,5 @@
+mod FoundValues
+mod KeySearch
+mod KeyShapes
+mod KeyedPlaces
+mod SearchedKeys
